@@ -1,0 +1,252 @@
+-- Laws of the list searches: what is a member of each, and what each finds.
+use mathlib.Core.Path.{_≡_, refl, sym, _∙_, ap}
+use mathlib.Core.Bool.{Bool, true, false, _&&_, _||_, cond}
+use mathlib.Core.Logic.{_⊎_, inl, inr, _≢_}
+use mathlib.Core.List.{List, [], _∷_, _++_, map, flatMap, List·Memᴰ, List·Memᴰ·head, List·Memᴰ·tail, List·Memᴰ·not-nil, List·Memᴰ·cases-cons, List·Memᴰ·append-cases, List·Memᴰ·eq-of-singleton, Memᴰ·append-left, Memᴰ·append-right}
+use mathlib.Core.Option.{Option, none, some}
+use Prim.Native.Nat.{ℕ, zero, suc, _<_, _≤_}
+use native.Mathlib.Omega.{arith}
+use lib.ListN.{length, getD, length-append, length-map, List·getD-append}
+use lib.Seq.{getD-append-seam}
+use Rattle.model.specs.Lists.{below, keep, first, anyOf, allOf}
+use Rattle.model.specs.Laws.Tests.{contra, and-left, and-right, and-intro, or-cases, or-left, or-right, dec, dec-eq}
+
+-- membership
+abbrev pub _∈_ : {A : Type 0} → A → List A → Type 0
+x ∈ xs = List·Memᴰ x xs
+
+infix 4 _∈_
+-- every member of a list with one element more
+pub all-cons : {A : Type 0} {xs : List A} {x : A} (P : A → Type 0) → P x → ((y : A) → y ∈ xs → P y) → (y : A) → y ∈ x ∷ xs → P y
+all-cons {xs = xs} {x} P p r y m = go (List·Memᴰ·cases-cons m)
+  where
+    go : (y ≡ x) ⊎ (y ∈ xs) → P y
+    go (inl e) = rw e p
+    go (inr e) = r y e
+
+-- ---- below
+
+pub below-in : (n i : ℕ) → i < n → i ∈ below n
+unfolding below
+below-in zero i h = absurd (omega arith)
+below-in (suc n) i h = go (below-in n i) (dec-eq i n)
+  where
+    go : (i < n → i ∈ below n) → (i ≡ n) ⊎ (i ≢ n) → i ∈ below n ++ (n ∷ [])
+    go r (inl p) = Memᴰ·append-right (below n) (List·Memᴰ·head p)
+    go r (inr p) = Memᴰ·append-left (n ∷ []) (r (omega arith))
+
+pub below-lt : (n i : ℕ) → i ∈ below n → i < n
+unfolding below
+below-lt zero i m = absurd (List·Memᴰ·not-nil m)
+below-lt (suc n) i m = go (below-lt n i) (List·Memᴰ·append-cases (below n) m)
+  where
+    go : (i ∈ below n → i < n) → (i ∈ below n) ⊎ (i ∈ n ∷ []) → i < suc n
+    go r (inl p) = omega (arith, r p)
+    go r (inr p) = omega (arith, List·Memᴰ·eq-of-singleton p)
+
+pub below-length : (n : ℕ) → length (below n) ≡ n
+unfolding below
+below-length zero = refl
+below-length (suc n) = omega (arith, length-append (below n) (n ∷ []), below-length n)
+
+pub below-at : (n i d : ℕ) → i < n → getD (below n) i d ≡ i
+unfolding below
+below-at zero i d h = absurd (omega arith)
+below-at (suc n) i d h = go (below-at n i d) (dec-eq i n)
+  where
+    go : (i < n → getD (below n) i d ≡ i) → (i ≡ n) ⊎ (i ≢ n) → getD (below n ++ (n ∷ [])) i d ≡ i
+    go r (inl p) = rw p (ap (λ j. getD (below n ++ (n ∷ [])) j d) (sym (below-length n)) ∙ getD-append-seam (below n) n [] d)
+    go r (inr p) = List·getD-append (below n) (n ∷ []) d i (omega (arith, below-length n)) ∙ r (omega arith)
+
+-- ---- map and flatMap
+
+pub map-in : {A B : Type 0} (f : A → B) {x : A} {xs : List A} → x ∈ xs → f x ∈ map f xs
+map-in f (List·Memᴰ·head p) = List·Memᴰ·head (ap f p)
+map-in f (List·Memᴰ·tail m) = List·Memᴰ·tail (map-in f m)
+
+pub map-at : {A B : Type 0} (f : A → B) (xs : List A) {y : B} → y ∈ map f xs → (x : A) × (x ∈ xs) × (y ≡ f x)
+map-at f [] m = absurd (List·Memᴰ·not-nil m)
+map-at {A} f (x ∷ xs) {y} m = go (λ r. map-at f xs r) (List·Memᴰ·cases-cons m)
+  where
+    go : (y ∈ map f xs → (z : A) × (z ∈ xs) × (y ≡ f z)) → (y ≡ f x) ⊎ (y ∈ map f xs) → (z : A) × (z ∈ x ∷ xs) × (y ≡ f z)
+    go r (inl p) = (x, List·Memᴰ·head refl, p)
+    go r (inr p) = let t = r p in (t .0, List·Memᴰ·tail (t .1), t .2)
+
+pub map-ext : {A B : Type 0} (f g : A → B) (xs : List A) → ((x : A) → x ∈ xs → f x ≡ g x) → map f xs ≡ map g xs
+map-ext f g [] h = refl
+map-ext f g (x ∷ xs) h = rw (h x (List·Memᴰ·head refl), map-ext f g xs (λ y m. h y (List·Memᴰ·tail m)))
+
+pub flat-in : {A B : Type 0} (f : A → List B) {x : A} {xs : List A} {y : B} → x ∈ xs → y ∈ f x → y ∈ flatMap f xs
+unfolding flatMap
+flat-in f {y = y} (List·Memᴰ·head {x = z} {xs = zs} p) m = Memᴰ·append-left (flatMap f zs) (rw p at m)
+flat-in f (List·Memᴰ·tail {x = z} r) m = Memᴰ·append-right (f z) (flat-in f r m)
+
+pub flat-at : {A B : Type 0} (f : A → List B) (xs : List A) {y : B} → y ∈ flatMap f xs → (x : A) × (x ∈ xs) × (y ∈ f x)
+unfolding flatMap
+flat-at f [] m = absurd (List·Memᴰ·not-nil m)
+flat-at {A} f (x ∷ xs) {y} m = go (λ r. flat-at f xs r) (List·Memᴰ·append-cases (f x) m)
+  where
+    go : (y ∈ flatMap f xs → (z : A) × (z ∈ xs) × (y ∈ f z)) → (y ∈ f x) ⊎ (y ∈ flatMap f xs) → (z : A) × (z ∈ x ∷ xs) × (y ∈ f z)
+    go r (inl p) = (x, List·Memᴰ·head refl, p)
+    go r (inr p) = let t = r p in (t .0, List·Memᴰ·tail (t .1), t .2)
+
+-- ---- anyOf and allOf
+
+module _ {A : Type 0} (f : A → Bool) where
+  pub any-at : (xs : List A) → anyOf f xs ≡ true → (x : A) × (x ∈ xs) × (f x ≡ true)
+  unfolding anyOf
+  any-at [] e = contra e refl
+  any-at (x ∷ xs) e = go (any-at xs) (or-cases (f x) _ e)
+    where
+      go : (anyOf f xs ≡ true → (y : A) × (y ∈ xs) × (f y ≡ true)) → (f x ≡ true) ⊎ (anyOf f xs ≡ true) → (y : A) × (y ∈ x ∷ xs) × (f y ≡ true)
+      go r (inl p) = (x, List·Memᴰ·head refl, p)
+      go r (inr p) = let t = r p in (t .0, List·Memᴰ·tail (t .1), t .2)
+
+  pub any-in : {x : A} {xs : List A} → x ∈ xs → f x ≡ true → anyOf f xs ≡ true
+  unfolding anyOf
+  any-in (List·Memᴰ·head {x = y} p) e = or-left (f y) _ (rw p at e)
+  any-in (List·Memᴰ·tail {x = y} m) e = or-right (f y) _ (any-in m e)
+
+  pub any-none : {x : A} {xs : List A} → anyOf f xs ≡ false → x ∈ xs → f x ≡ false
+  any-none {x} {xs} e m = go (dec (f x))
+    where
+      go : (f x ≡ true) ⊎ (f x ≡ false) → f x ≡ false
+      go (inl p) = contra (any-in m p) e
+      go (inr p) = p
+
+  pub all-at : (xs : List A) → allOf f xs ≡ true → (x : A) → x ∈ xs → f x ≡ true
+  unfolding allOf
+  all-at [] e x m = absurd (List·Memᴰ·not-nil m)
+  all-at (y ∷ ys) e x m = all-cons (λ z. f z ≡ true) (and-left (f y) _ e) (all-at ys (and-right (f y) _ e)) x m
+
+  pub all-of : (xs : List A) → ((x : A) → x ∈ xs → f x ≡ true) → allOf f xs ≡ true
+  unfolding allOf
+  all-of [] h = refl
+  all-of (x ∷ xs) h = and-intro (f x) _ (h x (List·Memᴰ·head refl)) (all-of xs (λ y m. h y (List·Memᴰ·tail m)))
+
+  pub any-ext : (g : A → Bool) (xs : List A) → ((x : A) → x ∈ xs → f x ≡ g x) → anyOf f xs ≡ anyOf g xs
+  unfolding anyOf
+  any-ext g [] h = refl
+  any-ext g (x ∷ xs) h = rw (h x (List·Memᴰ·head refl), any-ext g xs (λ y m. h y (List·Memᴰ·tail m)))
+
+  pub all-ext : (g : A → Bool) (xs : List A) → ((x : A) → x ∈ xs → f x ≡ g x) → allOf f xs ≡ allOf g xs
+  unfolding allOf
+  all-ext g [] h = refl
+  all-ext g (x ∷ xs) h = rw (h x (List·Memᴰ·head refl), all-ext g xs (λ y m. h y (List·Memᴰ·tail m)))
+
+-- ---- keep
+
+module _ {A : Type 0} (f : A → Bool) where
+  pub keep-at : (xs : List A) {x : A} → x ∈ keep f xs → (x ∈ xs) × (f x ≡ true)
+  unfolding keep
+  keep-at [] m = absurd (List·Memᴰ·not-nil m)
+  keep-at (y ∷ ys) {x} m = go (λ r. keep-at ys r) (dec (f y))
+    where
+      pick : (x ∈ keep f ys → (x ∈ ys) × (f x ≡ true)) → f y ≡ true → (x ≡ y) ⊎ (x ∈ keep f ys) → (x ∈ y ∷ ys) × (f x ≡ true)
+      pick r p (inl e) = (List·Memᴰ·head e, rw e p)
+      pick r p (inr e) = let t = r e in (List·Memᴰ·tail (t .0), t .1)
+
+      go : (x ∈ keep f ys → (x ∈ ys) × (f x ≡ true)) → (f y ≡ true) ⊎ (f y ≡ false) → (x ∈ y ∷ ys) × (f x ≡ true)
+      go r (inl p) = pick r p (List·Memᴰ·cases-cons (rw p at m))
+      go r (inr p) = let t = r (rw p at m) in (List·Memᴰ·tail (t .0), t .1)
+
+  pub keep-in : {x : A} {xs : List A} → x ∈ xs → f x ≡ true → x ∈ keep f xs
+  unfolding keep
+  keep-in (List·Memᴰ·head {x = y} p) e = let q : f y ≡ true = rw p at e in rw q (List·Memᴰ·head p)
+  keep-in {x} (List·Memᴰ·tail {x = y} {xs = ys} m) e = go (keep-in m e) (dec (f y))
+    where
+      go : x ∈ keep f ys → (f y ≡ true) ⊎ (f y ≡ false) → x ∈ keep f (y ∷ ys)
+      go r (inl p) = rw p (List·Memᴰ·tail r)
+      go r (inr p) = rw p r
+
+  pub keep-ext : (g : A → Bool) (xs : List A) → ((x : A) → x ∈ xs → f x ≡ g x) → keep f xs ≡ keep g xs
+  unfolding keep
+  keep-ext g [] h = refl
+  keep-ext g (x ∷ xs) h = rw (h x (List·Memᴰ·head refl), keep-ext g xs (λ y m. h y (List·Memᴰ·tail m)))
+
+  pub keep-append : (xs ys : List A) → keep f (xs ++ ys) ≡ keep f xs ++ keep f ys
+  unfolding keep
+  keep-append [] ys = refl
+  keep-append (x ∷ xs) ys = go (keep-append xs ys) (dec (f x))
+    where
+      go : keep f (xs ++ ys) ≡ keep f xs ++ keep f ys → (f x ≡ true) ⊎ (f x ≡ false) → keep f (x ∷ xs ++ ys) ≡ keep f (x ∷ xs) ++ keep f ys
+      go r (inl p) = rw (p, r)
+      go r (inr p) = rw (p, r)
+
+  pub keep-length : (xs : List A) → length (keep f xs) ≤ length xs
+  unfolding keep
+  keep-length [] = omega arith
+  keep-length (x ∷ xs) = go (keep-length xs) (dec (f x))
+    where
+      go : length (keep f xs) ≤ length xs → (f x ≡ true) ⊎ (f x ≡ false) → length (keep f (x ∷ xs)) ≤ suc (length xs)
+      go r (inl p) = rw p (omega arith)
+      go r (inr p) = rw p (omega arith)
+
+-- ---- first
+
+pub none-some : {A P : Type 0} {x : A} {o : Option A} → o ≡ none → o ≡ some x → P
+none-some {x = x} {o} p q = let z : _≡_ {A = ℕ} 0 1 = cc in absurd (omega arith)
+
+module _ {A : Type 0} (f : A → Bool) where
+  pub first-at : (xs : List A) (x : A) → first f xs ≡ some x → (x ∈ xs) × (f x ≡ true)
+  unfolding first
+  first-at [] x e = none-some refl e
+  first-at (y ∷ ys) x e = go (first-at ys x) (dec (f y))
+    where
+      go : (first f ys ≡ some x → (x ∈ ys) × (f x ≡ true)) → (f y ≡ true) ⊎ (f y ≡ false) → (x ∈ y ∷ ys) × (f x ≡ true)
+      go r (inl p) = let q : some y ≡ some x = rw p at e in let z : x ≡ y = cc in (List·Memᴰ·head z, rw z p)
+      go r (inr p) = let t = r (rw p at e) in (List·Memᴰ·tail (t .0), t .1)
+
+  pub first-in : {x : A} {xs : List A} → x ∈ xs → f x ≡ true → (y : A) × (first f xs ≡ some y)
+  unfolding first
+  first-in (List·Memᴰ·head {x = y} p) e = let q : f y ≡ true = rw p at e in (y, rw q)
+  first-in (List·Memᴰ·tail {x = y} {xs = ys} m) e = go (first-in m e) (dec (f y))
+    where
+      go : (z : A) × (first f ys ≡ some z) → (f y ≡ true) ⊎ (f y ≡ false) → (z : A) × (first f (y ∷ ys) ≡ some z)
+      go r (inl p) = (y, rw p)
+      go r (inr p) = (r .0, rw p (r .1))
+
+  pub first-none : (xs : List A) → ((x : A) → x ∈ xs → f x ≡ false) → first f xs ≡ none
+  unfolding first
+  first-none [] h = refl
+  first-none (x ∷ xs) h = rw (h x (List·Memᴰ·head refl)) (first-none xs (λ y m. h y (List·Memᴰ·tail m)))
+
+  -- the only element that passes is the first
+  pub first-only : (x : A) {xs : List A} → x ∈ xs → f x ≡ true → ((y : A) → y ∈ xs → f y ≡ true → y ≡ x) → first f xs ≡ some x
+  first-only x {xs} m e only =
+      let t = first-in m e in
+      let s = first-at xs (t .0) (t .1) in
+      t .1 ∙ ap some (only (t .0) (s .0) (s .1))
+
+  pub first-ext : (g : A → Bool) (xs : List A) → ((x : A) → x ∈ xs → f x ≡ g x) → first f xs ≡ first g xs
+  unfolding first
+  first-ext g [] h = refl
+  first-ext g (x ∷ xs) h = rw (h x (List·Memᴰ·head refl), first-ext g xs (λ y m. h y (List·Memᴰ·tail m)))
+
+-- ---- rising lists
+
+pub data Rising : List ℕ → Type 0 where
+  empty : Rising []
+  more : {x : ℕ} {xs : List ℕ} → ((y : ℕ) → y ∈ xs → x < y) → Rising xs → Rising (x ∷ xs)
+
+rising-snoc : {xs : List ℕ} {n : ℕ} → Rising xs → ((y : ℕ) → y ∈ xs → y < n) → Rising (xs ++ (n ∷ []))
+rising-snoc empty f = more (λ y m. absurd (List·Memᴰ·not-nil m)) empty
+rising-snoc {n = n} (more {x = x} {xs = xs} l r) f = more (λ y m. go y (List·Memᴰ·append-cases xs m)) (rising-snoc r (λ y m. f y (List·Memᴰ·tail m)))
+  where
+    go : (y : ℕ) → (y ∈ xs) ⊎ (y ∈ n ∷ []) → x < y
+    go y (inl m) = l y m
+    go y (inr m) = rw (List·Memᴰ·eq-of-singleton m) (f x (List·Memᴰ·head refl))
+
+pub rising-below : (n : ℕ) → Rising (below n)
+unfolding below
+rising-below zero = empty
+rising-below (suc n) = rising-snoc (rising-below n) (below-lt n)
+
+pub rising-keep : (f : ℕ → Bool) {xs : List ℕ} → Rising xs → Rising (keep f xs)
+unfolding keep
+rising-keep f empty = empty
+rising-keep f (more {x = x} {xs = xs} l r) = go (rising-keep f r) (dec (f x))
+  where
+    go : Rising (keep f xs) → (f x ≡ true) ⊎ (f x ≡ false) → Rising (keep f (x ∷ xs))
+    go q (inl p) = rw p (more (λ y m. l y (keep-at f xs m .0)) q)
+    go q (inr p) = rw p q

@@ -1,0 +1,140 @@
+-- Laws of parts, their codes, and the arrays that hold a value for each.
+use mathlib.Core.Path.{_≡_, refl, sym, _∙_, ap, ap₂}
+use mathlib.Core.Bool.{Bool, true, false, _&&_, cond}
+use mathlib.Core.Logic.{_⊎_, inl, inr, _≢_}
+use mathlib.Core.List.{List, [], _∷_, _++_, map, List·Memᴰ·append-cases, Memᴰ·append-left, Memᴰ·append-right}
+use Prim.Native.Nat.{ℕ, zero, suc, _+_, _≤_, _<_}
+use native.Mathlib.Omega.{arith}
+use lib.Dec.{eqb}
+use lib.ListN.{length, getD, set, length-map, length-set, List·getD-map}
+use lib.Seq.{ext-getD, getD-set-same, getD-set-other}
+use borrow.Author.Tests.{eqb-true, eq-eqb, ne-eqb}
+use Rattle.model.specs.declared.Part.{Part}
+use Rattle.model.specs.declared.Part.the-variants.{Generator, GeneratorBreaker, BusBreaker}
+use Rattle.model.specs.declared.Report.{Report}
+use Rattle.model.specs.declared.Health.{Health}
+use Rattle.model.specs.declared.Commands.{Commands}
+use Rattle.model.specs.Lists.{below}
+use Rattle.model.specs.Values.{number, index, firstCode, partCode, samePart, wordNumber}
+use Rattle.model.specs.Plant.{PartHealth, PartCommands, largest, generator, generatorBreaker, busBreaker, parts}
+use Rattle.model.specs.Reports.{atNumber, places, healthOf, commandsOf, healthPlaces, commandPlaces, reported}
+use Rattle.model.specs.Laws.Tests.{and-left, and-right, and-intro, dec, dec-eq, contra}
+use Rattle.model.specs.Laws.Lists.{_∈_, below-in, below-lt, below-length, below-at, map-in, map-at}
+
+-- ---- one part
+
+pub same-eq : (p q : Part) → samePart p q ≡ true → p ≡ q
+unfolding samePart
+same-eq (Generator a) (Generator b) e = ap Generator (eqb-true a b e)
+same-eq (Generator a) (GeneratorBreaker b) e = contra e refl
+same-eq (Generator a) (BusBreaker b) e = contra e refl
+same-eq (GeneratorBreaker a) (Generator b) e = contra e refl
+same-eq (GeneratorBreaker a) (GeneratorBreaker b) e = ap GeneratorBreaker (eqb-true a b e)
+same-eq (GeneratorBreaker a) (BusBreaker b) e = contra e refl
+same-eq (BusBreaker a) (Generator b) e = contra e refl
+same-eq (BusBreaker a) (GeneratorBreaker b) e = contra e refl
+same-eq (BusBreaker a) (BusBreaker b) e = ap BusBreaker (eqb-true a b e)
+
+pub same-refl : (p : Part) → samePart p p ≡ true
+unfolding samePart
+same-refl p = and-intro (eqb (firstCode p) (firstCode p)) _ (eq-eqb (firstCode p) (firstCode p) refl) (eq-eqb (number p) (number p) refl)
+
+-- ---- the parts of a ring
+
+-- p is a part of a ring of n
+abbrev pub InRing : ℕ → Part → Type 0
+InRing n p = (0 < number p) × (number p ≤ n)
+
+-- one kind of part at each index below n, by its number
+kind-in : (kind : ℕ → Part) (n k : ℕ) → 0 < k → k ≤ n → kind k ∈ map (λ i. kind (suc i)) (below n)
+kind-in kind n zero l h = absurd (omega arith)
+kind-in kind n (suc i) l h = map-in (λ j. kind (suc j)) (below-in n i (omega arith))
+
+pub parts-in : (n : ℕ) (p : Part) → InRing n p → p ∈ parts n
+unfolding parts
+parts-in n (Generator k) h = Memᴰ·append-left (map generatorBreaker (below n) ++ map busBreaker (below n)) (kind-in Generator n k (h .0) (h .1))
+parts-in n (GeneratorBreaker k) h = Memᴰ·append-right (map generator (below n)) (Memᴰ·append-left (map busBreaker (below n)) (kind-in GeneratorBreaker n k (h .0) (h .1)))
+parts-in n (BusBreaker k) h = Memᴰ·append-right (map generator (below n)) (Memᴰ·append-right (map generatorBreaker (below n)) (kind-in BusBreaker n k (h .0) (h .1)))
+
+kind-at : (kind : ℕ → Part) → ((k : ℕ) → number (kind k) ≡ k) → (n : ℕ) (p : Part) → p ∈ map (λ i. kind (suc i)) (below n) → InRing n p
+kind-at kind e n p m =
+    let t = map-at (λ i. kind (suc i)) (below n) m in
+    let z : number p ≡ suc (t .0) = ap number (t .2) ∙ e (suc (t .0)) in
+    let l = below-lt n (t .0) (t .1) in
+    (omega arith, omega arith)
+
+pub parts-at : (n : ℕ) (p : Part) → p ∈ parts n → InRing n p
+unfolding parts
+parts-at n p m = go (List·Memᴰ·append-cases (map generator (below n)) m)
+  where
+    breakers : (p ∈ map generatorBreaker (below n)) ⊎ (p ∈ map busBreaker (below n)) → InRing n p
+    breakers (inl x) = kind-at GeneratorBreaker (λ k. refl) n p x
+    breakers (inr x) = kind-at BusBreaker (λ k. refl) n p x
+
+    go : (p ∈ map generator (below n)) ⊎ (p ∈ map generatorBreaker (below n) ++ map busBreaker (below n)) → InRing n p
+    go (inl x) = kind-at Generator (λ k. refl) n p x
+    go (inr x) = breakers (List·Memᴰ·append-cases (map generatorBreaker (below n)) x)
+
+-- ---- codes
+
+index-suc : (k : ℕ) → 0 < k → suc (index k) ≡ k
+index-suc zero h = absurd (omega arith)
+index-suc (suc k) h = refl
+
+-- no two parts of a ring share a code
+pub code-only : (n : ℕ) (p q : Part) → n ≤ largest → InRing n p → InRing n q → partCode p ≡ partCode q → p ≡ q
+unfolding partCode
+code-only n (Generator a) (Generator b) h i j e = ap Generator (omega (arith, index-suc a (i .0), index-suc b (j .0)))
+code-only n (Generator a) (GeneratorBreaker b) h i j e = absurd (omega (arith, index-suc a (i .0), index-suc b (j .0)))
+code-only n (Generator a) (BusBreaker b) h i j e = absurd (omega (arith, index-suc a (i .0), index-suc b (j .0)))
+code-only n (GeneratorBreaker a) (Generator b) h i j e = absurd (omega (arith, index-suc a (i .0), index-suc b (j .0)))
+code-only n (GeneratorBreaker a) (GeneratorBreaker b) h i j e = ap GeneratorBreaker (omega (arith, index-suc a (i .0), index-suc b (j .0)))
+code-only n (GeneratorBreaker a) (BusBreaker b) h i j e = absurd (omega (arith, index-suc a (i .0), index-suc b (j .0)))
+code-only n (BusBreaker a) (Generator b) h i j e = absurd (omega (arith, index-suc a (i .0), index-suc b (j .0)))
+code-only n (BusBreaker a) (GeneratorBreaker b) h i j e = absurd (omega (arith, index-suc a (i .0), index-suc b (j .0)))
+code-only n (BusBreaker a) (BusBreaker b) h i j e = ap BusBreaker (omega (arith, index-suc a (i .0), index-suc b (j .0)))
+
+-- ---- arrays of 20 places
+
+module _ {A : Type 0} (f : ℕ → A) where
+  pub places-length : length (places f) ≡ largest
+  unfolding places
+  places-length = length-map (below largest) f ∙ below-length largest
+
+  pub places-at : (i : ℕ) (d : A) → i < largest → getD (places f) i d ≡ f i
+  unfolding places
+  places-at i d h = go
+    where
+      -- the default of the mapped list is never read
+      inside : (l : List ℕ) (j : ℕ) → j < length l → getD (map f l) j d ≡ f (getD l j 0)
+      inside [] j l = absurd (omega arith)
+      inside (x ∷ xs) zero l = refl
+      inside (x ∷ xs) (suc j) l = inside xs j (omega arith)
+
+      go : getD (map f (below largest)) i d ≡ f i
+      go = inside (below largest) i (omega (arith, below-length largest)) ∙ ap f (below-at largest i 0 h)
+
+  -- an array that holds f at each place
+  pub is-places : (l : List A) (d : A) → length l ≡ largest → ((i : ℕ) → i < largest → getD l i d ≡ f i) → l ≡ places f
+  is-places l d e h = ext-getD d l (places f) (e ∙ sym places-length) (λ i b. h i (omega (arith, e)) ∙ sym (places-at i d (omega (arith, e))))
+
+pub places-ext : {A : Type 0} (f g : ℕ → A) → ((i : ℕ) → i < largest → f i ≡ g i) → places f ≡ places g
+places-ext f g h = is-places g (places f) (f 0) (places-length f) (λ i l. places-at f i (f 0) l ∙ h i l)
+
+-- what stands at a number of the array
+at-places : {A : Type 0} (f : ℕ → A) (d : A) (k : ℕ) → 0 < k → k ≤ largest → (g : ℕ → A) → ((i : ℕ) → g (suc i) ≡ f i) → atNumber d (places f) k ≡ g k
+at-places f d zero l h g e = absurd (omega arith)
+at-places f d (suc i) l h g e = places-at f i d (omega arith) ∙ sym (e i)
+
+-- the arrays hold what they were made of
+pub health-places : (H : PartHealth) (p : Part) → InRing largest p → healthOf (healthPlaces H) p ≡ H p
+unfolding healthOf healthPlaces
+health-places H (Generator k) h = at-places (λ i. H (generator i)) 0 k (h .0) (h .1) (λ j. H (Generator j)) (λ i. refl)
+health-places H (GeneratorBreaker k) h = at-places (λ i. H (generatorBreaker i)) 0 k (h .0) (h .1) (λ j. H (GeneratorBreaker j)) (λ i. refl)
+health-places H (BusBreaker k) h = at-places (λ i. H (busBreaker i)) 0 k (h .0) (h .1) (λ j. H (BusBreaker j)) (λ i. refl)
+
+pub command-places : (C : PartCommands) (p : Part) → InRing largest p → commandsOf (commandPlaces C) p ≡ C p
+unfolding commandsOf commandPlaces
+command-places C (Generator k) h = at-places (λ i. C (generator i)) false k (h .0) (h .1) (λ j. C (Generator j)) (λ i. refl)
+command-places C (GeneratorBreaker k) h = at-places (λ i. C (generatorBreaker i)) false k (h .0) (h .1) (λ j. C (GeneratorBreaker j)) (λ i. refl)
+command-places C (BusBreaker k) h = at-places (λ i. C (busBreaker i)) false k (h .0) (h .1) (λ j. C (BusBreaker j)) (λ i. refl)

@@ -1,0 +1,70 @@
+-- What a test that passed or failed says.
+use mathlib.Core.Path.{_≡_, refl, sym}
+use mathlib.Core.Bool.{Bool, true, false, not, _&&_, _||_, cond}
+use mathlib.Core.Logic.{_≢_, _⊎_, inl, inr}
+use Prim.Native.Nat.{ℕ, _≤_, _<_}
+use native.Mathlib.Omega.{arith}
+use native.Mathlib.Decide.{ℕ-discrete}
+use lib.Dec.{ltb}
+use borrow.Author.Tests.{ltb-true, ltb-false}
+
+pub contra : {A : Type 0} {b : Bool} → b ≡ true → b ≡ false → A
+contra {b = b} p q = let z : _≡_ {A = ℕ} 0 1 = cc in absurd (omega arith)
+
+pub not-of : (b : Bool) → b ≡ false → not b ≡ true
+not-of b e = rw e
+
+pub and-left : (a b : Bool) → a && b ≡ true → a ≡ true
+and-left true b e = refl
+and-left false b e = e
+
+pub and-right : (a b : Bool) → a && b ≡ true → b ≡ true
+and-right true b e = e
+and-right false b e = contra e refl
+
+pub and-intro : (a b : Bool) → a ≡ true → b ≡ true → a && b ≡ true
+and-intro a b p q = rw (p, q)
+
+pub or-cases : (a b : Bool) → a || b ≡ true → (a ≡ true) ⊎ (b ≡ true)
+or-cases true b e = inl refl
+or-cases false b e = inr e
+
+pub or-left : (a b : Bool) → a ≡ true → a || b ≡ true
+or-left a b p = rw p
+
+pub or-right : (a b : Bool) → b ≡ true → a || b ≡ true
+or-right true b p = refl
+or-right false b p = p
+
+pub or-none : (a b : Bool) → a || b ≡ false → (a ≡ false) × (b ≡ false)
+or-none true b e = contra refl e
+or-none false b e = (refl, e)
+
+-- two tests that follow from each other are one
+pub iff : (a b : Bool) → (a ≡ true → b ≡ true) → (b ≡ true → a ≡ true) → a ≡ b
+iff true b f h = sym (f refl)
+iff false true f h = h refl
+iff false false f h = refl
+
+pub dec : (b : Bool) → (b ≡ true) ⊎ (b ≡ false)
+dec true = inl refl
+dec false = inr refl
+
+pub dec-eq : (a b : ℕ) → (a ≡ b) ⊎ (a ≢ b)
+dec-eq a b = go (ℕ-discrete a b)
+  where
+    go : Dec (a ≡ b) → (a ≡ b) ⊎ (a ≢ b)
+    go (yes p) = inl p
+    go (no p) = inr p
+
+pub dec-lt : (a b : ℕ) → (a < b) ⊎ (b ≤ a)
+dec-lt a b = go (dec (ltb a b))
+  where
+    go : (ltb a b ≡ true) ⊎ (ltb a b ≡ false) → (a < b) ⊎ (b ≤ a)
+    go (inl p) = inl (ltb-true a b p)
+    go (inr p) = inr (ltb-false a b p)
+
+-- what holds of both values holds of the one that a test picks
+pub by-cond : {A : Type 0} {x y : A} (P : A → Type 0) (t : Bool) → (t ≡ true → P x) → (t ≡ false → P y) → P (cond t x y)
+by-cond P true f g = f refl
+by-cond P false f g = g refl

@@ -1,0 +1,11 @@
+pub mod Laws
+pub mod Lists
+pub mod Values
+pub mod Plant
+pub mod Priority
+pub mod Choosing
+pub mod Sheet
+pub mod Reports
+pub mod Refusals
+pub mod Answers
+pub mod Text

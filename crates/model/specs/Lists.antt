@@ -1,0 +1,30 @@
+-- Lists searched by tests: what the definitions of document 01 are written with.
+use mathlib.Core.Bool.{Bool, true, false, _&&_, _||_, cond}
+use mathlib.Core.List.{List, [], _∷_, _++_}
+use mathlib.Core.Option.{Option, none, some}
+use Prim.Native.Nat.{ℕ, zero, suc}
+
+-- the numbers below n, rising
+unfoldable pub below : ℕ → List ℕ
+below zero = []
+below (suc n) = below n ++ (n ∷ [])
+
+-- the elements that pass a test
+unfoldable pub keep : {A : Type 0} → (A → Bool) → List A → List A
+keep f [] = []
+keep f (x ∷ xs) = let r = keep f xs in cond (f x) (x ∷ r) r
+
+-- the first element that passes a test
+unfoldable pub first : {A : Type 0} → (A → Bool) → List A → Option A
+first f [] = none
+first f (x ∷ xs) = let r = first f xs in cond (f x) (some x) r
+
+-- some element passes a test
+unfoldable pub anyOf : {A : Type 0} → (A → Bool) → List A → Bool
+anyOf f [] = false
+anyOf f (x ∷ xs) = let r = anyOf f xs in f x || r
+
+-- every element passes a test
+unfoldable pub allOf : {A : Type 0} → (A → Bool) → List A → Bool
+allOf f [] = true
+allOf f (x ∷ xs) = let r = allOf f xs in f x && r

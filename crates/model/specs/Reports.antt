@@ -1,0 +1,95 @@
+-- Document 01, "Fault file and reports": the file's bytes, codes and words, and the ring state (document 01: ring record).
+use mathlib.Core.Bool.{Bool, true, false, cond}
+use mathlib.Core.List.{List, [], _∷_, map}
+use mathlib.Core.Option.{Option, none, some}
+use Prim.Native.Nat.{ℕ, zero, suc, _+_, _*_, min}
+use lib.Dec.{eqb}
+use lib.ListN.{getD, take, drop}
+use Rattle.model.specs.declared.Part.{Part}
+use Rattle.model.specs.declared.Part.the-variants.{Generator, GeneratorBreaker, BusBreaker}
+use Rattle.model.specs.declared.Word.{Word}
+use Rattle.model.specs.declared.Word.the-variants.{Fit, StuckOff, StuckOpen, StuckClosed}
+use Rattle.model.specs.declared.Report.{Report}
+use Rattle.model.specs.declared.Health.{Health}
+use Rattle.model.specs.declared.Commands.{Commands}
+use Rattle.model.specs.declared.Ring.{Ring}
+use Rattle.model.specs.Lists.{below, first}
+use Rattle.model.specs.Values.{partCode, samePart, wordNumber}
+use Rattle.model.specs.Plant.{PartHealth, PartCommands, largest, generator, generatorBreaker, busBreaker, parts, allOff}
+use Rattle.model.specs.Choosing.{commands}
+
+-- "Byte 0 is n."
+abbrev pub fileSize : List ℕ → ℕ
+fileSize f = getD f 0 0
+
+-- "Bytes 1 and 2 are the number m of reports, low byte first"
+abbrev pub fileCount : List ℕ → ℕ
+fileCount f = getD f 1 0 + 256 * getD f 2 0
+
+-- "Two arrays follow: m part codes from byte 3, then m words."
+abbrev pub fileCodes : List ℕ → List ℕ
+fileCodes f = take (fileCount f) (drop 3 f)
+
+abbrev pub fileWords : List ℕ → List ℕ
+fileWords f = drop (3 + fileCount f) f
+
+-- the part of a ring of n that a code names; a ring has at most 20 of each kind
+unfoldable pub partNamed : ℕ → ℕ → Option Part
+partNamed n c = first (λ p. eqb (partCode p) c) (parts (min n largest))
+
+-- the word that a byte names
+unfoldable pub wordNamed : ℕ → Option Word
+wordNamed v = first (λ w. eqb (wordNumber w) v) (Fit ∷ StuckOff ∷ StuckOpen ∷ StuckClosed ∷ [])
+
+-- "The last word decides; one that repeats the present health is accepted.": the health after a report
+unfoldable pub reported : PartHealth → Report → PartHealth
+reported H r p = cond (samePart p (r .part)) (wordNumber (r .word)) (H p)
+
+-- "all parts fit"
+abbrev pub allFit : PartHealth
+allFit p = wordNumber Fit
+
+-- "The ring record holds n, each part's health and its standing order."
+
+-- what an array of 20 places holds at a number, from 1
+abbrev pub atNumber : {A : Type 0} → A → List A → ℕ → A
+atNumber d l zero = d
+atNumber d l (suc i) = getD l i d
+
+-- the array that holds f at each index
+unfoldable pub places : {A : Type 0} → (ℕ → A) → List A
+places f = map f (below largest)
+
+unfoldable pub healthOf : Health → PartHealth
+healthOf h (Generator k) = atNumber 0 (h .generators) k
+healthOf h (GeneratorBreaker k) = atNumber 0 (h .«generator_breakers») k
+healthOf h (BusBreaker k) = atNumber 0 (h .«bus_breakers») k
+
+unfoldable pub commandsOf : Commands → PartCommands
+commandsOf c (Generator k) = atNumber false (c .generators) k
+commandsOf c (GeneratorBreaker k) = atNumber false (c .«generator_breakers») k
+commandsOf c (BusBreaker k) = atNumber false (c .«bus_breakers») k
+
+unfoldable pub healthPlaces : PartHealth → Health
+healthPlaces H =
+    record {
+      generators = places (λ i. H (generator i));
+      «generator_breakers» = places (λ i. H (generatorBreaker i));
+      «bus_breakers» = places (λ i. H (busBreaker i));
+    }
+
+unfoldable pub commandPlaces : PartCommands → Commands
+commandPlaces C =
+    record {
+      generators = places (λ i. C (generator i));
+      «generator_breakers» = places (λ i. C (generatorBreaker i));
+      «bus_breakers» = places (λ i. C (busBreaker i));
+    }
+
+-- n buses, "every part fit and ordered off or open"
+unfoldable pub blankRing : ℕ → Ring
+blankRing n = record { n = n; health = healthPlaces allFit; commands = commandPlaces allOff }
+
+-- the ring state with another health, and the commands that it calls for
+unfoldable pub withPlan : Ring → PartHealth → Ring
+withPlan ring H = record { n = ring .n; health = healthPlaces H; commands = commandPlaces (commands (ring .n) H) }

@@ -1,0 +1,112 @@
+// The data of a ring of generators (document 01). Types alone: their meaning is defined in specs/.
+// Parts, buses and generators carry the paper's numbers, 1 to n; arrays have a place for each of 20, at number - 1.
+
+// "A report holds a part, which is a generator, a generator breaker or a bus breaker with its number, and a word."
+pub enum Part {
+    Generator(u8),
+    GeneratorBreaker(u8),
+    BusBreaker(u8),
+}
+
+pub enum Word {
+    Fit,
+    StuckOff,
+    StuckOpen,
+    StuckClosed,
+}
+
+pub struct Report {
+    pub part: Part,
+    pub word: Word,
+}
+
+// The health of every part, each the number of the word that brought it about. A byte, so that a damaged record can be
+// held and refused.
+pub struct Health {
+    pub generators: [u8; 20],
+    pub generator_breakers: [u8; 20],
+    pub bus_breakers: [u8; 20],
+}
+
+// The command (document 01: order) of every part: true is on or closed.
+pub struct Commands {
+    pub generators: [bool; 20],
+    pub generator_breakers: [bool; 20],
+    pub bus_breakers: [bool; 20],
+}
+
+// The ring state (document 01: ring record): the standing command of each part beside its health.
+pub struct Ring {
+    pub n: u8,
+    pub health: Health,
+    pub commands: Commands,
+}
+
+// What a bus is fed by: its own generator, or another by its high or low path (document 01: way).
+pub enum Choice {
+    Dark,
+    Own(u8),
+    High(u8),
+    Low(u8),
+}
+
+// An array of enums as a struct's field is held as an array of structs.
+pub struct BusChoice {
+    pub choice: Choice,
+}
+
+// "For each bus its answer is one of three: dark, fed by one generator, or a clash that names the two lowest generators
+// feeding it."
+pub enum Feed {
+    Dark,
+    Fed(u8),
+    Clash(u8, u8),
+}
+
+pub struct BusFeed {
+    pub feed: Feed,
+}
+
+// Served, or sent back unserved with its number.
+pub enum Outcome {
+    Served,
+    Refused(u8),
+}
+
+// What a start or a step answers.
+pub struct RingAnswer {
+    pub outcome: Outcome,
+    pub ring: Ring,
+    pub choices: [BusChoice; 20],
+}
+
+// What the plant reckoning answers.
+pub struct FeedsAnswer {
+    pub outcome: Outcome,
+    pub buses: [BusFeed; 20],
+}
+
+// The part that a code names in a ring, or refusal 5.
+pub enum PartAnswer {
+    Named(Part),
+    Refused(u8),
+}
+
+// The word that a byte names, or refusal 6.
+pub enum WordAnswer {
+    Named(Word),
+    Refused(u8),
+}
+
+// A report that stands at a place of the fault file, or its refusal, or no report there.
+pub enum ReportAnswer {
+    Read(Report),
+    Refused(u8),
+    Missing,
+}
+
+// A whole fault file's number of buses and of reports, or its first refusal.
+pub enum FileAnswer {
+    Served(u8, usize),
+    Refused(u8),
+}
