@@ -1,0 +1,67 @@
+-- Document 01, "Settled positions": the starred dozen, in one theorem over their table.
+use mathlib.Core.Path.{_≡_, refl}
+use mathlib.Core.List.{List, [], _∷_, map, flatMap, reverse}
+use Prim.Native.Nat.{ℕ}
+use lib.ListN.{take}
+use Rattle.model.specs.declared.Part.the-variants.{Generator, GeneratorBreaker, BusBreaker}
+use Rattle.model.specs.declared.Word.the-variants.{Fit, StuckOff, StuckOpen, StuckClosed}
+use Rattle.model.specs.declared.Report.{Report}
+use Rattle.model.specs.declared.Choice.{Choice}
+use Rattle.model.specs.declared.Choice.the-variants.{Dark, Own, High, Low}
+use Rattle.model.specs.declared.BusChoice.{BusChoice}
+use Rattle.model.specs.Lists.{below, keep, first, anyOf, allOf}
+use Rattle.model.specs.Values.{samePart}
+use Rattle.model.specs.Plant.{PartHealth, next, up, arc, connected}
+use Rattle.model.specs.Priority.{others, sources, pathBusBreakers, pathBreakers, pathParts, highRises, pathsFrom, paths}
+use Rattle.model.specs.Choosing.{onPaths, usable, countedClosed, isolated, permitted, choose, addPath, chosen, plan, choiceOf, choices}
+use Rattle.model.specs.Reports.{reported, allFit}
+
+-- the health after a list of reports
+unfoldable pub healthAfter : List Report → PartHealth
+healthAfter [] = allFit
+healthAfter (r ∷ rs) = reported (healthAfter rs) r
+
+-- "Sources of B1, B2, .. after the faults named": a row of the table
+pub record Position : Type 0 where
+  pub size : ℕ
+  pub faults : List Report
+  pub expected : List Choice
+
+abbrev generatorOff : ℕ → Report
+generatorOff g = record { part = Generator g; word = StuckOff }
+
+abbrev generatorBreakerOpen : ℕ → Report
+generatorBreakerOpen g = record { part = GeneratorBreaker g; word = StuckOpen }
+
+abbrev busBreakerOpen : ℕ → Report
+busBreakerOpen i = record { part = BusBreaker i; word = StuckOpen }
+
+abbrev busBreakerClosed : ℕ → Report
+busBreakerClosed i = record { part = BusBreaker i; word = StuckClosed }
+
+abbrev position : ℕ → List Report → List Choice → Position
+position n fs cs = record { size = n; faults = fs; expected = cs }
+
+unfoldable pub starred : List Position
+starred =
+    position 3 [] (Own 1 ∷ Own 2 ∷ High 2 ∷ [])
+    ∷ position 4 [] (Own 1 ∷ Own 2 ∷ High 2 ∷ High 2 ∷ [])
+    ∷ position 5 [] (Own 1 ∷ Own 2 ∷ High 2 ∷ High 2 ∷ Low 2 ∷ [])
+    ∷ position 3 (busBreakerOpen 2 ∷ []) (Own 1 ∷ Own 2 ∷ High 1 ∷ [])
+    ∷ position 3 (busBreakerOpen 2 ∷ busBreakerOpen 3 ∷ []) (Own 1 ∷ Own 2 ∷ Own 3 ∷ [])
+    ∷ position 3 (busBreakerClosed 1 ∷ []) (Own 1 ∷ High 1 ∷ High 1 ∷ [])
+    ∷ position 3 (busBreakerClosed 3 ∷ []) (Own 1 ∷ Own 2 ∷ High 1 ∷ [])
+    ∷ position 3 (generatorOff 1 ∷ []) (High 2 ∷ Own 2 ∷ High 2 ∷ [])
+    ∷ position 3 (generatorOff 1 ∷ generatorOff 2 ∷ []) (High 3 ∷ High 3 ∷ Own 3 ∷ [])
+    ∷ position 3 (generatorOff 1 ∷ generatorOff 2 ∷ generatorOff 3 ∷ []) (Dark ∷ Dark ∷ Dark ∷ [])
+    ∷ position 3 (generatorBreakerOpen 2 ∷ []) (Own 1 ∷ High 1 ∷ High 1 ∷ [])
+    ∷ position 3 (generatorOff 3 ∷ busBreakerOpen 2 ∷ busBreakerOpen 3 ∷ []) (Own 1 ∷ Own 2 ∷ Dark ∷ [])
+    ∷ []
+
+-- the choices of a position's buses, by the definitions
+unfoldable pub found : Position → List Choice
+found p = map (λ (c : BusChoice). c .choice) (take (p .size) (choices (p .size) (healthAfter (p .faults))))
+
+pub settled : map found starred ≡ map (λ (p : Position). p .expected) starred
+unfolding starred found healthAfter reported choices choiceOf plan chosen addPath choose permitted isolated countedClosed usable onPaths paths pathsFrom highRises pathParts pathBreakers pathBusBreakers sources others flatMap connected arc up next samePart allOf anyOf first keep below
+settled = refl
