@@ -1,3 +1,5 @@
 pub mod Geometry
 pub mod Connected
+pub mod Paths
+pub mod Choosing
 pub mod Settled
