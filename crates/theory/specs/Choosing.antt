@@ -18,7 +18,7 @@ use Rattle.model.specs.Laws.Tests.{contra, not-of, and-left, and-right, and-int
 use Rattle.model.specs.Laws.Lists.{_∈_, all-cons, any-at, any-in, all-at, all-of, map-in, first-at}
 use Rattle.model.specs.Laws.Parts.{InRing, same-eq, same-refl}
 use Rattle.theory.specs.Connected.{connected-leads, leads-connected}
-use Rattle.theory.specs.Paths.{Ends, Uses, OnPath, at-generator, at-generator-breaker, at-bus-breaker, on-path, path-at, path-in, bus-breaker-on, line-on, tried-at}
+use Rattle.theory.specs.Paths.{Ends, Uses, OnPath, at-generator, at-generator-breaker, at-bus-breaker, on-path, path-at, path-in, bus-breaker-on, breakers-on, line-on, tried-at}
 
 -- ---- parts of chosen paths
 
@@ -56,12 +56,9 @@ module _ {n : ℕ} {H : PartHealth} {w : Path} (h : Ends n w) where
       }
 
   pub usable-of : Usable n H w → usable n H w ≡ true
-  unfolding usable pathParts pathBreakers
-  usable-of u = and-intro (fit (H (generator (w .source)))) _ (u .runs) (all-of (notOpen H) (pathBreakers n w) (λ p m. not-of (stuckOpen (H p)) (go p (on-path n w p (in-parts p m)))))
+  unfolding usable
+  usable-of u = and-intro (fit (H (generator (w .source)))) _ (u .runs) (all-of (notOpen H) (pathBreakers n w) (λ p m. not-of (stuckOpen (H p)) (go p (on-path n w p (breakers-on n w p m)))))
     where
-      in-parts : (p : Part) → p ∈ pathBreakers n w → p ∈ pathParts n w
-      in-parts p m = List·Memᴰ·tail m
-
       go : (p : Part) → OnPath n w p → stuckOpen (H p) ≡ false
       go p at-generator = rw (eqb-true (H (generator (w .source))) 0 (u .runs))
       go p at-generator-breaker = u .breaker

@@ -3,4 +3,7 @@ pub mod Connected
 pub mod Paths
 pub mod Choosing
 pub mod Completeness
+pub mod Feeds
+pub mod Interruption
+pub mod Locality
 pub mod Settled

@@ -112,6 +112,10 @@ pub line-on : (n : ℕ) (w : Path) {i : ℕ} → i ∈ pathBusBreakers n w → b
 unfolding pathParts pathBreakers
 line-on n w m = List·Memᴰ·tail (List·Memᴰ·tail (map-in busBreaker m))
 
+pub breakers-on : (n : ℕ) (w : Path) (p : Part) → p ∈ pathBreakers n w → p ∈ pathParts n w
+unfolding pathParts
+breakers-on n w p m = List·Memᴰ·tail m
+
 -- which path's part a part of one kind is
 pub generator-on : (n : ℕ) (w : Path) (g : ℕ) → generator g ∈ pathParts n w → g ≡ w .source
 generator-on n w g m = go (on-path n w (generator g) m) refl
