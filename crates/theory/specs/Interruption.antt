@@ -12,13 +12,14 @@ use Rattle.model.specs.Priority.{Path, pathParts}
 use Rattle.model.specs.Choosing.{chosen, commands}
 use Rattle.model.specs.Laws.Tests.{or-left}
 use Rattle.model.specs.Laws.Lists.{_∈_}
+use Rattle.model.specs.Laws.Parts.{InRing, at-index}
 use Rattle.theory.specs.Paths.{generator-on, generator-breaker-on, bus-breaker-on, path-at}
 use Rattle.theory.specs.Choosing.{Safe, safe-chosen}
 use Rattle.theory.specs.Feeds.{Single, Less, single, single-less, closed-case, closed-by, commanded-at}
 
--- every part that C commands on or closed, D does
-abbrev pub Fewer : PartCommands → PartCommands → Type 0
-Fewer C D = (p : Part) → C p ≡ true → D p ≡ true
+-- every part of the ring that C commands on or closed, D does
+abbrev pub Fewer : ℕ → PartCommands → PartCommands → Type 0
+Fewer n C D = (p : Part) → InRing n p → C p ≡ true → D p ≡ true
 
 -- a part of a plan is fit, or a breaker that is not stuck open
 module _ (n : ℕ) (H : PartHealth) where
@@ -51,23 +52,23 @@ was-closed h k c d stuck free fewer e = go (closed-case k c e)
     go (inr p) = let q = fewer (p .1) in closed-by h d (free q) q
 
 -- while parts open or stop: the standing commands or fewer, after a change of health
-pub opening-single : (n : ℕ) (H K : PartHealth) (C : PartCommands) → NoneStuckClosed n H K → Fewer C (commands n H) → (b : ℕ) → b < n → Single n K C b
+pub opening-single : (n : ℕ) (H K : PartHealth) (C : PartCommands) → NoneStuckClosed n H K → Fewer n C (commands n H) → (b : ℕ) → b < n → Single n K C b
 opening-single n H K C e f b hb = single-less less b hb (single n H b hb)
   where
     less : Less n K C H (commands n H)
     less = record {
-      runs = λ g hg r c. let d = f (generator g) c in (on-fit n H g d, d);
-      breaker = λ g hg c. was-closed (H (generatorBreaker g)) (K (generatorBreaker g)) (C (generatorBreaker g)) (commands n H (generatorBreaker g)) (e .breaker g hg) (breaker-free n H g) (f (generatorBreaker g)) c;
-      line = λ i hi c. was-closed (H (busBreaker i)) (K (busBreaker i)) (C (busBreaker i)) (commands n H (busBreaker i)) (e .line i hi) (line-free n H i) (f (busBreaker i)) c;
+      runs = λ g hg r c. let d = f (generator g) (at-index n g hg) c in (on-fit n H g d, d);
+      breaker = λ g hg c. was-closed (H (generatorBreaker g)) (K (generatorBreaker g)) (C (generatorBreaker g)) (commands n H (generatorBreaker g)) (e .breaker g hg) (breaker-free n H g) (f (generatorBreaker g) (at-index n g hg)) c;
+      line = λ i hi c. was-closed (H (busBreaker i)) (K (busBreaker i)) (C (busBreaker i)) (commands n H (busBreaker i)) (e .line i hi) (line-free n H i) (f (busBreaker i) (at-index n i hi)) c;
     }
 
 -- while parts close or start: the new commands or fewer
-pub closing-single : (n : ℕ) (H : PartHealth) (C : PartCommands) → Fewer C (commands n H) → (b : ℕ) → b < n → Single n H C b
+pub closing-single : (n : ℕ) (H : PartHealth) (C : PartCommands) → Fewer n C (commands n H) → (b : ℕ) → b < n → Single n H C b
 closing-single n H C f b hb = single-less less b hb (single n H b hb)
   where
     less : Less n H C H (commands n H)
     less = record {
-      runs = λ g hg r c. (r, f (generator g) c);
-      breaker = λ g hg c. was-closed (H (generatorBreaker g)) (H (generatorBreaker g)) (C (generatorBreaker g)) (commands n H (generatorBreaker g)) (λ s. s) (breaker-free n H g) (f (generatorBreaker g)) c;
-      line = λ i hi c. was-closed (H (busBreaker i)) (H (busBreaker i)) (C (busBreaker i)) (commands n H (busBreaker i)) (λ s. s) (line-free n H i) (f (busBreaker i)) c;
+      runs = λ g hg r c. (r, f (generator g) (at-index n g hg) c);
+      breaker = λ g hg c. was-closed (H (generatorBreaker g)) (H (generatorBreaker g)) (C (generatorBreaker g)) (commands n H (generatorBreaker g)) (λ s. s) (breaker-free n H g) (f (generatorBreaker g) (at-index n g hg)) c;
+      line = λ i hi c. was-closed (H (busBreaker i)) (H (busBreaker i)) (C (busBreaker i)) (commands n H (busBreaker i)) (λ s. s) (line-free n H i) (f (busBreaker i) (at-index n i hi)) c;
     }

@@ -6,4 +6,6 @@ pub mod Completeness
 pub mod Feeds
 pub mod Interruption
 pub mod Locality
+pub mod Demand3
+pub mod Operations
 pub mod Settled

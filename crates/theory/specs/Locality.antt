@@ -17,7 +17,7 @@ use Rattle.model.specs.Choosing.{onPaths, usable, countedClosed, isolated, perm
 use Rattle.model.specs.Sheet.{opening, closing, sheet, sheetOf}
 use Rattle.model.specs.Laws.Tests.{dec, contra}
 use Rattle.model.specs.Laws.Lists.{_∈_, all-cons, all-ext, first-ext, keep-ext, map-ext, below-lt}
-use Rattle.model.specs.Laws.Parts.{InRing, parts-at}
+use Rattle.model.specs.Laws.Parts.{InRing, at-index, parts-at}
 use Rattle.theory.specs.Connected.{connected-ext}
 use Rattle.theory.specs.Paths.{Ends, path-in-ring, breakers-on, tried-at}
 use Rattle.theory.specs.Choosing.{Safe, safe-chosen}
@@ -26,9 +26,6 @@ use Rattle.theory.specs.Feeds.{commanded-at}
 -- two values for each part agree on the parts of the ring
 abbrev pub Agree : {A : Type 0} → ℕ → (Part → A) → (Part → A) → Type 0
 Agree n f g = (p : Part) → InRing n p → f p ≡ g p
-
-at-index : (n i : ℕ) → i < n → (0 < suc i) × (suc i ≤ n)
-at-index n i h = (omega arith, h)
 
 -- ---- choosing
 
@@ -101,6 +98,6 @@ feed-ext n H K C D same both b hb = ap feedBy (keep-ext (feeds n H C b) (feeds n
     one g hg =
         let r = at-index n g hg in
         let near : running H C g && closed (H (generatorBreaker g)) (C (generatorBreaker g)) ≡ running K D g && closed (K (generatorBreaker g)) (D (generatorBreaker g)) =
-            rw (same (generator g) r, same (generatorBreaker g) r, both (generator g) r, both (generatorBreaker g) r) in
+        rw (same (generator g) r, same (generatorBreaker g) r, both (generator g) r, both (generatorBreaker g) r) in
         ap₂ _&&_ near
         (connected-ext n (busBreakerClosed H C) (busBreakerClosed K D) g b hg hb (λ i h. let s = at-index n i h in rw (same (busBreaker i) s, both (busBreaker i) s)))

@@ -114,6 +114,11 @@ module _ {A : Type 0} (f : A → Bool) where
       go (inl p) = contra (any-in m p) e
       go (inr p) = p
 
+  pub any-false : (xs : List A) → ((x : A) → x ∈ xs → f x ≡ false) → anyOf f xs ≡ false
+  unfolding anyOf
+  any-false [] h = refl
+  any-false (x ∷ xs) h = rw (h x (List·Memᴰ·head refl)) (any-false xs (λ y m. h y (List·Memᴰ·tail m)))
+
   pub all-at : (xs : List A) → allOf f xs ≡ true → (x : A) → x ∈ xs → f x ≡ true
   unfolding allOf
   all-at [] e x m = absurd (List·Memᴰ·not-nil m)

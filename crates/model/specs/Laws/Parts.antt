@@ -45,6 +45,10 @@ same-refl p = and-intro (eqb (firstCode p) (firstCode p)) _ (eq-eqb (firstCode p
 abbrev pub InRing : ℕ → Part → Type 0
 InRing n p = (0 < number p) × (number p ≤ n)
 
+-- the part at an index below n is one
+pub at-index : (n i : ℕ) → i < n → (0 < suc i) × (suc i ≤ n)
+at-index n i h = (omega arith, h)
+
 -- one kind of part at each index below n, by its number
 kind-in : (kind : ℕ → Part) (n k : ℕ) → 0 < k → k ≤ n → kind k ∈ map (λ i. kind (suc i)) (below n)
 kind-in kind n zero l h = absurd (omega arith)
