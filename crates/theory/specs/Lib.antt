@@ -8,4 +8,5 @@ pub mod Interruption
 pub mod Locality
 pub mod Demand3
 pub mod Operations
+pub mod Steady
 pub mod Settled
