@@ -9,4 +9,5 @@ pub mod Locality
 pub mod Demand3
 pub mod Operations
 pub mod Steady
+pub mod Demand3Holds
 pub mod Settled

@@ -109,7 +109,7 @@ pub record Ready (n : ℕ) (ring : Ring) (H : PartHealth) (P : PlantState) : Typ
   pub orders : Agree n (commandsOf (ring .commands)) (P .last)
 
 -- document 01's phases for a plant
-pub phasesOf : ℕ → PlantState → Phases
+unfoldable pub phasesOf : ℕ → PlantState → Phases
 phasesOf n P = record {
   first = map (operation false) (opening n (P .last) (commands n (P .health)));
   second = map (operation true) (closing n (P .last) (commands n (P .health)));
@@ -119,12 +119,12 @@ module _ {n : ℕ} {ring : Ring} {H : PartHealth} {P : PlantState} (small : n �
   news : Agree n (commands n H) (commands n (P .health))
   news p r = commands-ext n H (P .health) (ready .health) p
 
-  sheet-is : nextSheet ring H ≡ sheetOf (opening n (P .last) (commands n (P .health))) (closing n (P .last) (commands n (P .health)))
-  unfolding nextSheet sheet
+  pub sheet-is : nextSheet ring H ≡ sheet n (P .last) (commands n (P .health))
+  unfolding nextSheet
   sheet-is = rw (ready .size) (sheet-ext n (commandsOf (ring .commands)) (P .last) (commands n H) (commands n (P .health)) (ready .orders) news)
 
   pub served-decodes : (buffer : List ℕ) → decode n (servedReply ring H buffer .buffer) ≡ some (phasesOf n P)
-  unfolding servedReply phasesOf
+  unfolding servedReply phasesOf sheet
   served-decodes buffer = rw sheet-is
       (decode-sheet n small (opening n (P .last) (commands n (P .health))) (closing n (P .last) (commands n (P .health)))
       (λ p m. opening-at n (P .last) (commands n (P .health)) p m .0) (λ p m. closing-at n (P .last) (commands n (P .health)) p m .0) buffer)
@@ -187,7 +187,7 @@ transition-steady {n} {ring} {H} {P} small ready kinds above buffer (performed {
 
 -- ---- a steady record meets no condition of refusal 9
 
-fit-of-kind : (p : Part) → healthOfKind p 0 ≡ true
+pub fit-of-kind : (p : Part) → healthOfKind p 0 ≡ true
 unfolding healthOfKind
 fit-of-kind (Generator k) = refl
 fit-of-kind (GeneratorBreaker k) = refl

@@ -1,0 +1,457 @@
+-- Demand 3 holds of the controller whose answers are the definitions that the contracts of start and step cite.
+use mathlib.Core.Path.{_≡_, refl, sym, _∙_, ap}
+use mathlib.Core.Bool.{Bool, true, false, not, _&&_, _||_, cond, Bool·beq}
+use mathlib.Core.Logic.{_≢_, _⊎_, inl, inr, _↔_}
+use mathlib.Core.List.{List, [], _∷_, _++_, append-nil, List·Permᴰ, Permᴰ·refl}
+use mathlib.Core.Option.{Option, none, some}
+use Prim.Native.Nat.{ℕ, zero, suc, _≤_, _<_}
+use native.Mathlib.Omega.{arith}
+use lib.Dec.{ltb, eqb}
+use lib.ListN.{length, getD}
+use borrow.Author.Tests.{ltb-true, ltb-false, lt-ltb, le-ltb, eqb-true, eqb-false, eq-eqb, ne-eqb}
+use Rattle.model.specs.declared.Part.{Part}
+use Rattle.model.specs.declared.Part.the-variants.{Generator, GeneratorBreaker, BusBreaker}
+use Rattle.model.specs.declared.Word.{Word}
+use Rattle.model.specs.declared.Word.the-variants.{Fit, StuckOff, StuckOpen, StuckClosed}
+use Rattle.model.specs.declared.Report.{Report}
+use Rattle.model.specs.declared.Ring.{Ring}
+use Rattle.model.specs.declared.Choice.{Choice}
+use Rattle.model.specs.declared.Choice.the-variants as choice
+use Rattle.model.specs.declared.BusChoice.{BusChoice}
+use Rattle.model.specs.declared.Outcome.{Outcome}
+use Rattle.model.specs.declared.Outcome.the-variants as outcome
+use Rattle.model.specs.declared.Feed.the-variants as feed
+use Rattle.model.specs.Lists.{below, anyOf}
+use Rattle.model.specs.Values.{number, samePart, wordNumber, outcomeOf, choiceSource}
+use Rattle.model.specs.Plant.{PartHealth, PartCommands, smallest, largest, allOff, generatorBreaker, busBreaker, stuckClosed, healthOfKind, busFeed}
+use Rattle.model.specs.Priority.{Path, highRises}
+use Rattle.model.specs.Choosing.{commands, choices, choiceOf, plan}
+use Rattle.model.specs.Sheet.{opening, closing, sheet}
+use Rattle.model.specs.Reports.{reported, allFit, places, healthOf, commandsOf, healthPlaces, commandPlaces, blankRing}
+use Rattle.model.specs.Refusals.{firstMet, notOfRing, wordOfOtherKind, generatorFitAgain, tooShort, badRecord, nextSheet, nextHealth, reportConditions, startRefusal, stepRefusal}
+use Rattle.model.specs.Answers.{Reply, refusedReply, servedReply, startReply, stepReply}
+use Rattle.model.specs.Laws.Tests.{contra, dec, dec-eq, dec-lt, or-cases, or-none, or-left, or-right, and-left, and-right, by-cond, not-of}
+use Rattle.model.specs.Laws.Lists.{_∈_, none-some}
+use Rattle.model.specs.Laws.Parts.{InRing, at-index, places-at, same-eq, command-places}
+use Rattle.theory.specs.Paths.{pathTo}
+use Rattle.theory.specs.Completeness.{dark-exactly}
+use Rattle.theory.specs.Feeds.{Single, no-clash, lit-fed, dark-fed, Reaches, reaches-usable, usable-reaches}
+use Rattle.theory.specs.Interruption.{Fewer, NoneStuckClosed, opening-single, closing-single}
+use Rattle.theory.specs.Locality.{Agree, feed-ext, commands-ext, sheet-ext}
+use Rattle.theory.specs.Demand3.{Controller, PlantState, freshPlant, effect, afterWord, afterWords, Operation, operation, performAll, Phases, decode, Call, step, Calls, nothing, _then_, Begins, whole, longer, replyTo, words, lent, servedOutcome, isServed, World, Performed, performed, Ended, started, served, refused, Moment, in-first, in-second, isStuckClosed, isEmpty, excepted, Interrupted, in-start, between, in-call, shownAt, BusShown, RecordGiven, AsChosen, wordRefusal, Meets, no-part, no-word, no-room, Answered, Holds, Demand3}
+use Rattle.theory.specs.Operations.{perform-health}
+use Rattle.theory.specs.Steady.{Ready, phasesOf, Steady, sheet-is, fit-of-kind, as-chosen, served-decodes, transition-steady, steady-good, some-of-prefix, some-of-perm, first-fewer, first-done, second-fewer}
+
+-- the controller of the definitions
+abbrev pub controller : Controller
+controller = record { start = startReply; step = stepReply }
+
+-- ---- outcomes
+
+refused-number : (k j : ℕ) → outcomeOf k ≡ outcome.Refused j → (k ≡ j) × (0 < k)
+unfolding outcomeOf
+refused-number k j e = go (dec-eq k 0)
+  where
+    go : (k ≡ 0) ⊎ (k ≢ 0) → (k ≡ j) × (0 < k)
+    go (inl z) = let q : outcome.Served ≡ outcome.Refused j = rw (eq-eqb k 0 z) at e in let x : _≡_ {A = ℕ} 0 1 = cc in absurd (omega arith)
+    go (inr z) = let q : outcome.Refused k ≡ outcome.Refused j = rw (ne-eqb k 0 z) at e in (cc, omega arith)
+
+refused-outcome : (k : ℕ) → 0 < k → outcomeOf k ≡ outcome.Refused k
+unfolding outcomeOf
+refused-outcome k h = rw (ne-eqb k 0 (λ e. omega arith))
+
+served-zero : (k : ℕ) → servedOutcome (outcomeOf k) ≡ true → k ≡ 0
+unfolding outcomeOf
+served-zero k e = go (dec-eq k 0)
+  where
+    go : (k ≡ 0) ⊎ (k ≢ 0) → k ≡ 0
+    go (inl z) = z
+    go (inr z) = contra (rw (ne-eqb k 0 z) at e) refl
+
+zero-served : (k : ℕ) → k ≡ 0 → servedOutcome (outcomeOf k) ≡ true
+unfolding outcomeOf
+zero-served k z = rw z
+
+module _ (ring : Ring) (r : Report) (buffer : List ℕ) where
+  abbrev refusal : ℕ
+  refusal = stepRefusal ring r (length buffer)
+
+  step-outcome : stepReply ring r buffer .answer .outcome ≡ outcomeOf refusal
+  unfolding stepReply servedReply refusedReply
+  step-outcome = go (dec-eq refusal 0)
+    where
+      go : (refusal ≡ 0) ⊎ (refusal ≢ 0) → stepReply ring r buffer .answer .outcome ≡ outcomeOf refusal
+      go (inl e) = rw e
+      go (inr e) = rw (ne-eqb refusal 0 e)
+
+  step-served : isServed (stepReply ring r buffer) ≡ true → stepReply ring r buffer ≡ servedReply ring (nextHealth ring r) buffer
+  unfolding stepReply
+  step-served e = rw (served-zero refusal (rw step-outcome at e))
+
+  step-refused : isServed (stepReply ring r buffer) ≡ false → stepReply ring r buffer ≡ refusedReply refusal ring buffer
+  unfolding stepReply
+  step-refused e = rw (ne-eqb refusal 0 (λ z. contra (zero-served refusal z) (rw step-outcome at e)))
+
+start-served : (n : ℕ) (buffer : List ℕ) → isServed (startReply n buffer) ≡ true → startReply n buffer ≡ servedReply (blankRing n) allFit buffer
+unfolding startReply refusedReply
+start-served n buffer e = go (dec-eq (startRefusal n (length buffer)) 0)
+  where
+    go : (startRefusal n (length buffer) ≡ 0) ⊎ (startRefusal n (length buffer) ≢ 0) → startReply n buffer ≡ servedReply (blankRing n) allFit buffer
+    go (inl z) = rw z
+    go (inr z) = absurd (z (served-zero (startRefusal n (length buffer)) (rw (ne-eqb (startRefusal n (length buffer)) 0 z) at e)))
+
+-- ---- a report, in the record and in the plant
+
+same-effect : (w : Word) → wordNumber w ≡ effect w
+same-effect Fit = refl
+same-effect StuckOff = refl
+same-effect StuckOpen = refl
+same-effect StuckClosed = refl
+
+-- the ring and the plant, ready for the phases of a step
+step-ready : {n : ℕ} {W : World} → Steady n W → (r : Report) → Ready n (W .ring) (nextHealth (W .ring) r) (afterWord r (W .plant))
+unfolding reported afterWord
+step-ready s r = record { size = s .size; health = λ p i. rw (same-effect (r .word), s .health p i); orders = s .orders }
+
+in-ring : (n : ℕ) (p : Part) → notOfRing n p ≡ false → InRing n p
+unfolding notOfRing
+in-ring n p e = let t = or-none (ltb (number p) 1) (ltb n (number p)) e in (ltb-false (number p) 1 (t .0), ltb-false n (number p) (t .1))
+
+not-in-ring : (n : ℕ) (p : Part) → notOfRing n p ≡ true → InRing n p → ⊥
+unfolding notOfRing
+not-in-ring n p e r = go (or-cases (ltb (number p) 1) (ltb n (number p)) e)
+  where
+    go : (ltb (number p) 1 ≡ true) ⊎ (ltb n (number p) ≡ true) → ⊥
+    go (inl q) = omega (arith, ltb-true (number p) 1 q, r .0)
+    go (inr q) = omega (arith, ltb-true n (number p) q, r .1)
+
+-- refusals 6 and 7, by cases
+word-refusal : (p : Part) (w : Word) (x : ℕ) → cond (wordOfOtherKind p (wordNumber w)) 6 (cond (generatorFitAgain p (wordNumber w)) 7 x) ≡ cond (eqb (wordRefusal p w) 0) x (wordRefusal p w)
+unfolding wordOfOtherKind generatorFitAgain wordRefusal
+word-refusal (Generator k) Fit x = refl
+word-refusal (Generator k) StuckOff x = refl
+word-refusal (Generator k) StuckOpen x = refl
+word-refusal (Generator k) StuckClosed x = refl
+word-refusal (GeneratorBreaker k) Fit x = refl
+word-refusal (GeneratorBreaker k) StuckOff x = refl
+word-refusal (GeneratorBreaker k) StuckOpen x = refl
+word-refusal (GeneratorBreaker k) StuckClosed x = refl
+word-refusal (BusBreaker k) Fit x = refl
+word-refusal (BusBreaker k) StuckOff x = refl
+word-refusal (BusBreaker k) StuckOpen x = refl
+word-refusal (BusBreaker k) StuckClosed x = refl
+
+-- a word that is not refused brings about a health of its part's kind
+word-of-kind : (p : Part) (w : Word) → wordRefusal p w ≡ 0 → healthOfKind p (wordNumber w) ≡ true
+unfolding wordRefusal healthOfKind
+word-of-kind (Generator k) Fit e = absurd (omega arith)
+word-of-kind (Generator k) StuckOff e = refl
+word-of-kind (Generator k) StuckOpen e = absurd (omega arith)
+word-of-kind (Generator k) StuckClosed e = absurd (omega arith)
+word-of-kind (GeneratorBreaker k) Fit e = refl
+word-of-kind (GeneratorBreaker k) StuckOff e = absurd (omega arith)
+word-of-kind (GeneratorBreaker k) StuckOpen e = refl
+word-of-kind (GeneratorBreaker k) StuckClosed e = refl
+word-of-kind (BusBreaker k) Fit e = refl
+word-of-kind (BusBreaker k) StuckOff e = absurd (omega arith)
+word-of-kind (BusBreaker k) StuckOpen e = refl
+word-of-kind (BusBreaker k) StuckClosed e = refl
+
+-- ---- which refusal meets a step of the list
+
+-- a number: a refusal that meets the step, or 0 for one that none meets
+data Judged (n : ℕ) (P : PlantState) (r : Report) (room : ℕ) : ℕ → Type 0 where
+  met : {k : ℕ} → Meets n P r room k → Judged n P r room k
+  fine : InRing n (r .part) → wordRefusal (r .part) (r .word) ≡ 0 → length (sheet n (P .last) (commands n (afterWord r P .health))) ≤ room → Judged n P r room 0
+
+judge : (n : ℕ) (P : PlantState) (r : Report) (room : ℕ)
+    → Judged n P r room (cond (notOfRing n (r .part)) 5 (cond (eqb (wordRefusal (r .part) (r .word)) 0) (cond (tooShort room (sheet n (P .last) (commands n (afterWord r P .health)))) 8 0) (wordRefusal (r .part) (r .word))))
+unfolding tooShort
+judge n P r room = go (dec (notOfRing n (r .part))) (wordRefusal (r .part) (r .word)) refl (dec (ltb room size))
+  where
+    size : ℕ
+    size = length (sheet n (P .last) (commands n (afterWord r P .health)))
+
+    go : (notOfRing n (r .part) ≡ true) ⊎ (notOfRing n (r .part) ≡ false) → (k : ℕ) → wordRefusal (r .part) (r .word) ≡ k → (ltb room size ≡ true) ⊎ (ltb room size ≡ false)
+        → Judged n P r room (cond (notOfRing n (r .part)) 5 (cond (eqb (wordRefusal (r .part) (r .word)) 0) (cond (ltb room size) 8 0) (wordRefusal (r .part) (r .word))))
+    go (inl p) k e t = rw p (met (no-part (not-in-ring n (r .part) p)))
+    go (inr p) (suc k) e t = rw (p, e, ne-eqb (suc k) 0 (λ z. omega arith)) (met (no-word (in-ring n (r .part) p) e))
+    go (inr p) zero e (inl t) = rw (p, e, t) (met (no-room (in-ring n (r .part) p) e (ltb-true room size t)))
+    go (inr p) zero e (inr t) = rw (p, e, t) (fine (in-ring n (r .part) p) e (ltb-false room size t))
+
+-- no two numbers meet a step
+meets-only : {n : ℕ} {P : PlantState} {r : Report} {room j k : ℕ} → Meets n P r room j → Judged n P r room k → j ≡ k
+meets-only (no-part f) (met (no-part g)) = refl
+meets-only (no-part f) (met (no-word i e)) = absurd (f i)
+meets-only (no-part f) (met (no-room i e l)) = absurd (f i)
+meets-only (no-part f) (fine i e l) = absurd (f i)
+meets-only (no-word i e) (met (no-part f)) = absurd (f i)
+meets-only (no-word i e) (met (no-word i₁ e₁)) = sym e ∙ e₁
+meets-only (no-word i e) (met (no-room i₁ e₁ l)) = absurd (omega arith)
+meets-only (no-word i e) (fine i₁ e₁ l) = absurd (omega arith)
+meets-only (no-room i e l) (met (no-part f)) = absurd (f i)
+meets-only (no-room i e l) (met (no-word i₁ e₁)) = absurd (omega arith)
+meets-only (no-room i e l) (met (no-room i₁ e₁ l₁)) = refl
+meets-only (no-room i e l) (fine i₁ e₁ l₁) = absurd (omega arith)
+
+meets-positive : {n : ℕ} {P : PlantState} {r : Report} {room k : ℕ} → Meets n P r room k → 0 < k
+meets-positive (no-part f) = omega arith
+meets-positive (no-word i e) = omega arith
+meets-positive (no-room i e l) = omega arith
+
+module _ {n : ℕ} {W : World} (big : smallest ≤ n) (small : n ≤ largest) (s : Steady n W) (r : Report) where
+  judged : (room : ℕ) → Judged n (W .plant) r room (stepRefusal (W .ring) r room)
+  unfolding stepRefusal firstMet reportConditions afterWord
+  judged room =
+      rw (steady-good s big small, word-refusal (r .part) (r .word) (cond (tooShort room (nextSheet (W .ring) (nextHealth (W .ring) r))) 8 0), sheet-is small (step-ready s r), s .size)
+      (judge n (W .plant) r room)
+
+  -- a served step's report names a part of the ring and a word for it
+  served-report : (buffer : List ℕ) → isServed (stepReply (W .ring) r buffer) ≡ true → InRing n (r .part) × (wordRefusal (r .part) (r .word) ≡ 0)
+  served-report buffer e = go (judged (length buffer)) (served-zero (refusal (W .ring) r buffer) (rw (step-outcome (W .ring) r buffer) at e))
+    where
+      go : {k : ℕ} → Judged n (W .plant) r (length buffer) k → k ≡ 0 → InRing n (r .part) × (wordRefusal (r .part) (r .word) ≡ 0)
+      go (met m) z = absurd (omega (arith, meets-positive m))
+      go (fine i w l) z = (i, w)
+
+  -- a call is refused exactly when a numbered refusal meets it
+  answered : (buffer : List ℕ) → Answered n W r buffer (stepReply (W .ring) r buffer)
+  unfolding refusedReply
+  answered buffer = record {
+    exactly = λ k. (λ e. forth k (rw (step-outcome (W .ring) r buffer) at e), λ m. step-outcome (W .ring) r buffer ∙ back k m);
+    record-kept = λ e. rw (step-refused (W .ring) r buffer e);
+    buffer-kept = λ e. rw (step-refused (W .ring) r buffer e);
+  }
+    where
+      forth : (k : ℕ) → outcomeOf (refusal (W .ring) r buffer) ≡ outcome.Refused k → Meets n (W .plant) r (length buffer) k
+      forth k e = let t = refused-number (refusal (W .ring) r buffer) k e in go (judged (length buffer)) (t .0) (t .1)
+        where
+          go : {j : ℕ} → Judged n (W .plant) r (length buffer) j → j ≡ k → 0 < j → Meets n (W .plant) r (length buffer) k
+          go (met m) z l = rw z at m
+          go (fine i w h) z l = absurd (omega arith)
+
+      back : (k : ℕ) → Meets n (W .plant) r (length buffer) k → outcomeOf (refusal (W .ring) r buffer) ≡ outcome.Refused k
+      back k m = rw (← meets-only m (judged (length buffer))) (refused-outcome k (meets-positive m))
+
+-- ---- after every call all is steady
+
+-- the health of a ring after a report that is not refused
+module _ {n : ℕ} {W : World} (s : Steady n W) (r : Report) (inside : InRing n (r .part)) (word : wordRefusal (r .part) (r .word) ≡ 0) where
+  next-kinds : (p : Part) → InRing n p → healthOfKind p (nextHealth (W .ring) r p) ≡ true
+  unfolding reported
+  next-kinds p i = go (dec (samePart p (r .part)))
+    where
+      go : (samePart p (r .part) ≡ true) ⊎ (samePart p (r .part) ≡ false) → healthOfKind p (cond (samePart p (r .part)) (wordNumber (r .word)) (healthOf (W .ring .health) p)) ≡ true
+      go (inl e) = rw (e, same-eq p (r .part) e) (word-of-kind (r .part) (r .word) word)
+      go (inr e) = rw (e, s .health p i) (s .kinds p i)
+
+  next-above : (p : Part) → InRing largest p → n < number p → nextHealth (W .ring) r p ≡ 0
+  unfolding reported
+  next-above p i l = go (dec (samePart p (r .part)))
+    where
+      go : (samePart p (r .part) ≡ true) ⊎ (samePart p (r .part) ≡ false) → cond (samePart p (r .part)) (wordNumber (r .word)) (healthOf (W .ring .health) p) ≡ 0
+      go (inl e) = absurd (omega (arith, ap number (same-eq p (r .part) e), inside .1))
+      go (inr e) = rw e (s .above p i l .0)
+
+start-ready : (n : ℕ) → n ≤ largest → Ready n (blankRing n) allFit freshPlant
+unfolding blankRing
+start-ready n small = record { size = refl; health = λ p i. refl; orders = λ p i. command-places allOff p (i .0, omega (arith, i .1)) }
+
+-- what a buffer decodes to is one thing
+same-phases : {o : Option Phases} {x y : Phases} → o ≡ some x → o ≡ some y → x ≡ y
+same-phases {o} {x} {y} p q = cc
+
+module _ (n : ℕ) (buffer : List ℕ) (big : smallest ≤ n) (small : n ≤ largest) where
+  start-steady : {ph : Phases} {Q : PlantState} → isServed (startReply n buffer) ≡ true → decode n (startReply n buffer .buffer) ≡ some ph → Performed ph freshPlant Q
+      → Steady n (record { plant = Q; ring = startReply n buffer .answer .ring; shown = startReply n buffer .answer .choices })
+  start-steady {ph} {Q} e d q = rw (start-served n buffer e)
+      (transition-steady small (start-ready n small) (λ p i. fit-of-kind p) (λ p i l. refl) buffer
+      (rw (same-phases (rw (start-served n buffer e) at d) (served-decodes small (start-ready n small) buffer)) at q))
+
+  step-steady : {W : World} {ph : Phases} {Q : PlantState} → Steady n W → (r : Report) (lending : List ℕ) → isServed (stepReply (W .ring) r lending) ≡ true
+      → decode n (stepReply (W .ring) r lending .buffer) ≡ some ph → Performed ph (afterWord r (W .plant)) Q
+      → Steady n (record { plant = Q; ring = stepReply (W .ring) r lending .answer .ring; shown = stepReply (W .ring) r lending .answer .choices })
+  step-steady {W} {ph} {Q} s r lending e d q =
+      let t = served-report big small s r lending e in
+      let z = step-served (W .ring) r lending e in
+      rw z
+      (transition-steady small (step-ready s r) (next-kinds s r (t .0) (t .1)) (next-above s r (t .0) (t .1)) lending
+      (rw (same-phases (rw z at d) (served-decodes small (step-ready s r) lending)) at q))
+
+  pub ended-steady : {calls : Calls} {W : World} → Ended controller n buffer calls W → Steady n W
+  unfolding afterWords refusedReply
+  ended-steady (started e d q) = start-steady e d q
+  ended-steady (served (step r lending) h e d q) = step-steady (ended-steady h) r lending e d q
+  ended-steady (refused {W = W} (step r lending) h e) = rw (step-refused (W .ring) r lending e) (ended-steady h)
+
+-- ---- what is shown
+
+choice-dark : (n : ℕ) (o : Option Path) → choiceOf n o ≡ choice.Dark → o ≡ none
+unfolding choiceOf
+choice-dark n none e = refl
+choice-dark n (some w) e = absurd (lit (eqb (w .source) (w .bus)) (Bool·beq (w .rising) (highRises n (w .source) (w .bus))) e)
+  where
+    lit : (a b : Bool) → cond a (choice.Own (suc (w .source))) (cond b (choice.High (suc (w .source))) (choice.Low (suc (w .source)))) ≡ choice.Dark → ⊥
+    lit true b e = let z : _≡_ {A = ℕ} 0 1 = cc in omega arith
+    lit false true e = let z : _≡_ {A = ℕ} 0 1 = cc in omega arith
+    lit false false e = let z : _≡_ {A = ℕ} 0 1 = cc in omega arith
+
+choice-source : (n : ℕ) (w : Path) → choiceSource (choiceOf n (some w)) ≡ suc (w .source)
+unfolding choiceOf
+choice-source n w = by-cond (λ (c : Choice). choiceSource c ≡ suc (w .source)) (eqb (w .source) (w .bus)) (λ e. refl)
+    (λ e. by-cond (λ (c : Choice). choiceSource c ≡ suc (w .source)) (Bool·beq (w .rising) (highRises n (w .source) (w .bus))) (λ e. refl) (λ e. refl))
+
+pub choices-at : (n : ℕ) (H : PartHealth) (b : ℕ) (d : BusChoice) → b < n → n ≤ largest → getD (choices n H) b d .choice ≡ choiceOf n (plan n H b)
+unfolding choices places
+choices-at n H b d h small =
+    ap (λ (c : BusChoice). c .choice) (places-at (λ k. record { choice = cond (ltb k n) (choiceOf n (plan n H k)) choice.Dark }) b d (omega arith)) ∙ rw (lt-ltb b n h)
+
+module _ {n : ℕ} {W : World} (small : n ≤ largest) (s : Steady n W) (b : ℕ) (hb : b < n) where
+  abbrev K : PartHealth
+  K = W .plant .health
+
+  shown-is : shownAt W b ≡ choiceOf n (plan n K b)
+  shown-is = rw (s .shown) (choices-at n K b (record { choice = choice.Dark }) hb small)
+
+  fed-is : busFeed n K (W .plant .last) b ≡ busFeed n K (commands n K) b
+  fed-is = feed-ext n K K (W .plant .last) (commands n K) (λ p i. refl) (s .planned) b hb
+
+  none-dark : plan n K b ≡ none → choiceOf n (plan n K b) ≡ choice.Dark
+  unfolding choiceOf
+  none-dark e = rw e
+
+  bus-shown : BusShown n W b
+  bus-shown = record {
+    dark-exactly = (
+      λ e g c. let t = reaches-usable hb c in dark-exactly n K b hb .0 (choice-dark n (plan n K b) (sym shown-is ∙ e)) g (t .0) (c .inside) (t .1),
+      λ f. shown-is ∙ none-dark (dark-exactly n K b hb .1 (λ g r hg u. f g (usable-reaches r hg hb u))),
+    );
+    lit = λ ne. fed-is ∙ lit (plan n K b) refl ne;
+    dark = λ e. fed-is ∙ dark-fed n K b hb (choice-dark n (plan n K b) (sym shown-is ∙ e));
+  }
+    where
+      lit : (o : Option Path) → plan n K b ≡ o → shownAt W b ≢ choice.Dark → busFeed n K (commands n K) b ≡ feed.Fed (choiceSource (shownAt W b))
+      lit none e ne = absurd (ne (shown-is ∙ none-dark e))
+      lit (some w) e ne = rw (shown-is, e, choice-source n w) (lit-fed n K b w hb e)
+
+-- ---- interruptions
+
+-- words that stick no breaker closed
+words-last : (rs : List Report) (P : PlantState) → afterWords rs P .last ≡ P .last
+unfolding afterWords afterWord
+words-last [] P = refl
+words-last (r ∷ rs) P = words-last rs (afterWord r P)
+
+not-closed : (w : Word) → isStuckClosed w ≡ false → stuckClosed (effect w) ≡ true → ⊥
+not-closed Fit e c = contra c refl
+not-closed StuckOff e c = contra c refl
+not-closed StuckOpen e c = contra c refl
+not-closed StuckClosed e c = contra refl e
+
+word-none : (r : Report) (P : PlantState) (p : Part) → isStuckClosed (r .word) ≡ false → stuckClosed (afterWord r P .health p) ≡ true → stuckClosed (P .health p) ≡ true
+unfolding afterWord
+word-none r P p e = go (samePart p (r .part))
+  where
+    go : (t : Bool) → stuckClosed (cond t (effect (r .word)) (P .health p)) ≡ true → stuckClosed (P .health p) ≡ true
+    go true c = absurd (not-closed (r .word) e c)
+    go false c = c
+
+words-none : (rs : List Report) (P : PlantState) (p : Part) → anyOf (λ r. isStuckClosed (r .word)) rs ≡ false → stuckClosed (afterWords rs P .health p) ≡ true → stuckClosed (P .health p) ≡ true
+unfolding afterWords anyOf
+words-none [] P p e c = c
+words-none (r ∷ rs) P p e c =
+    let t = or-none (isStuckClosed (r .word)) (anyOf (λ q. isStuckClosed (q .word)) rs) e in
+    word-none r P p (t .0) (words-none rs (afterWord r P) p (t .1) c)
+
+-- a moment that is not excepted: no word has stuck a breaker closed, or the first phase is done
+data Unless (rs : List Report) (rest : List Operation) : Type 0 where
+  no-word-3 : anyOf (λ r. isStuckClosed (r .word)) rs ≡ false → Unless rs rest
+  all-opened : isEmpty rest ≡ true → Unless rs rest
+
+unless : (rs : List Report) (rest : List Operation) → excepted rs rest ≡ false → Unless rs rest
+unfolding excepted
+unless rs rest e = go (dec (anyOf (λ r. isStuckClosed (r .word)) rs)) (dec (isEmpty rest))
+  where
+    go : (anyOf (λ r. isStuckClosed (r .word)) rs ≡ true) ⊎ (anyOf (λ r. isStuckClosed (r .word)) rs ≡ false) → (isEmpty rest ≡ true) ⊎ (isEmpty rest ≡ false) → Unless rs rest
+    go (inr p) q = no-word-3 p
+    go (inl p) (inl q) = all-opened q
+    go (inl p) (inr q) = contra (rw (p, q)) e
+
+empty-is : {A : Type 0} (l : List A) → isEmpty l ≡ true → l ≡ []
+empty-is [] e = refl
+empty-is (x ∷ xs) e = contra e refl
+
+-- the plant P₀ before a call, with no more than its plan's commands; P after the call's words
+module _ (n : ℕ) (P₀ : PlantState) (rs : List Report) (stands : Fewer n (P₀ .last) (commands n (P₀ .health))) where
+  abbrev P : PlantState
+  P = afterWords rs P₀
+
+  abbrev N : PartCommands
+  N = commands n (P .health)
+
+  moment-single : {rest : List Operation} {Q : PlantState} → Moment (phasesOf n P) P rest Q → Unless rs rest → (b : ℕ) → b < n → Single n (Q .health) (Q .last) b
+  unfolding phasesOf
+  moment-single (in-first done {rest = rest} d) (no-word-3 e) b hb =
+      rw (perform-health done P)
+      (opening-single n (P₀ .health) (P .health) (performAll done P .last) none-closed
+      (λ p i c. stands p i (rw words-last at (first-fewer n P N done (some-of-prefix false (opening n (P .last) N) done rest d) p i c))) b hb)
+    where
+      none-closed : NoneStuckClosed n (P₀ .health) (P .health)
+      none-closed = record { breaker = λ g hg c. words-none rs P₀ (generatorBreaker g) e c; line = λ i hi c. words-none rs P₀ (busBreaker i) e c }
+  moment-single (in-first done {rest = rest} d) (all-opened e) b hb =
+      rw (perform-health done P) (closing-single n (P .health) (performAll done P .last) (first-done n P N done (rw (empty-is rest e, append-nil) at d)) b hb)
+  moment-single (in-second xs done rest dx dy) u b hb =
+      rw (perform-health done (performAll xs P) ∙ perform-health xs P)
+      (closing-single n (P .health) (performAll done (performAll xs P) .last)
+      (second-fewer n P N (performAll xs P) done (first-done n P N xs dx) (some-of-prefix true (closing n (P .last) N) done rest dy)) b hb)
+
+-- ---- demand 3
+
+module _ (n : ℕ) (buffer : List ℕ) (big : smallest ≤ n) (small : n ≤ largest) (begun : isServed (startReply n buffer) ≡ true) where
+  start-chosen : AsChosen n freshPlant (startReply n buffer)
+  start-chosen = rw (start-served n buffer begun) (as-chosen small (start-ready n small) buffer)
+
+  step-chosen : {W : World} → Steady n W → (r : Report) (lending : List ℕ) → isServed (stepReply (W .ring) r lending) ≡ true → AsChosen n (afterWord r (W .plant)) (stepReply (W .ring) r lending)
+  step-chosen {W} s r lending e = rw (step-served (W .ring) r lending e) (as-chosen small (step-ready s r) lending)
+
+  steady : {calls : Calls} {W : World} → Ended controller n buffer calls W → Steady n W
+  steady h = ended-steady n buffer big small h
+
+  ends : (calls : Calls) → (W : World) × Ended controller n buffer calls W
+  unfolding afterWords
+  ends nothing = (_, started begun (start-chosen .decodes) (performed (Permᴰ·refl _) (Permᴰ·refl _)))
+  ends (calls then step r lending) = go (ends calls)
+    where
+      go : (W : World) × Ended controller n buffer calls W → (W : World) × Ended controller n buffer (calls then step r lending) W
+      go t = by (dec (isServed (stepReply (t .0 .ring) r lending)))
+        where
+          by : (isServed (stepReply (t .0 .ring) r lending) ≡ true) ⊎ (isServed (stepReply (t .0 .ring) r lending) ≡ false) → (W : World) × Ended controller n buffer (calls then step r lending) W
+          by (inl e) = (_, served (step r lending) (t .1) e (step-chosen (steady (t .1)) r lending e .decodes) (performed (Permᴰ·refl _) (Permᴰ·refl _)))
+          by (inr e) = (_, refused (step r lending) (t .1) e)
+
+  clash-free : {calls : Calls} {P : PlantState} {t : Bool} → Interrupted controller n buffer calls P t → t ≡ false → (b : ℕ) → b < n → Single n (P .health) (P .last) b
+  unfolding afterWords
+  clash-free (in-start {ph = ph} {rest = rest} e d m) u b hb =
+      moment-single n freshPlant [] (λ p i c. contra c refl) (rw (same-phases (rw (start-served n buffer e) at d) (served-decodes small (start-ready n small) buffer)) at m) (unless [] rest u) b hb
+  clash-free (between {W = W} i h) u b hb = closing-single n (W .plant .health) (W .plant .last) (λ p i c. sym (steady h .planned p i) ∙ c) b hb
+  clash-free (in-call {W = W} (step r lending) {ph = ph} {rest = rest} i h e d m) u b hb =
+      moment-single n (W .plant) (r ∷ []) (λ p i c. sym (steady h .planned p i) ∙ c)
+      (rw (same-phases (rw (step-served (W .ring) r lending e) at d) (served-decodes small (step-ready (steady h) r) lending)) at m) (unless (r ∷ []) rest u) b hb
+
+  holds : (calls : Calls) → Holds controller n buffer calls
+  unfolding afterWords
+  holds calls = record {
+    ends = ends calls;
+    shown = λ i h b hb. bus-shown small (steady h) b hb;
+    given = λ i h. let s = steady h in record { size = s .size; health = s .health; orders = s .orders; above = s .above };
+    start-chosen = start-chosen;
+    chosen = λ call i h e. pick call h e;
+    no-clash = λ {P} m b g h hb. no-clash n (P .health) (P .last) b (clash-free m refl b hb) g h;
+    answered = λ r lending i h. answered big small (steady h) r lending;
+  }
+    where
+      pick : {before : Calls} {W : World} (call : Call) → Ended controller n buffer before W → isServed (replyTo controller (W .ring) call) ≡ true → AsChosen n (afterWords (words call) (W .plant)) (replyTo controller (W .ring) call)
+      pick (step r lending) h e = step-chosen (steady h) r lending e
+
+pub demand3 : Demand3 controller
+demand3 = record { holds = λ n buffer big small begun calls. holds n buffer big small begun calls }
