@@ -16,7 +16,7 @@ use Rattle.model.specs.Plant.{PartHealth, PartCommands, generator, generatorBre
 use Rattle.model.specs.Priority.{Path, pathBusBreakers, pathParts}
 use Rattle.model.specs.Choosing.{onPaths, countedClosed, choose, addPath, chosen, plan, commands}
 use Rattle.model.specs.Laws.Tests.{contra, not-of, and-left, and-right, and-intro, or-cases, or-left, or-right, dec, dec-eq}
-use Rattle.model.specs.Laws.Lists.{_∈_, below-in, below-lt, keep-at, keep-in, Rising, more, rising-below, rising-keep, none-some}
+use Rattle.model.specs.Laws.Lists.{_∈_, below-in, below-lt, keep-at, keep-in, Rising, RisingBy, more, rising-below, rising-keep, none-some}
 use Rattle.theory.specs.Connected.{Arc, connected-leads, leads-connected, leads-mono, leads-trans, leads-sym, arc-leads, leads-arcs}
 use Rattle.theory.specs.Paths.{Ends, Uses, pathTo, lower, upper, path-at, path-in, generator-on, generator-breaker-on, source-on, breaker-on}
 use Rattle.theory.specs.Choosing.{on-at, on-in, Usable, Safe, counted-in, counted-usable, safe-chosen}

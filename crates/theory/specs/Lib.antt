@@ -10,4 +10,6 @@ pub mod Demand3
 pub mod Operations
 pub mod Steady
 pub mod Demand3Holds
+pub mod Demand2
+pub mod Demand2Holds
 pub mod Settled

@@ -230,28 +230,41 @@ module _ {A : Type 0} (f : A → Bool) where
 
 -- ---- rising lists
 
-pub data Rising : List ℕ → Type 0 where
-  empty : Rising []
-  more : {x : ℕ} {xs : List ℕ} → ((y : ℕ) → y ∈ xs → x < y) → Rising xs → Rising (x ∷ xs)
+-- a list whose elements rise by a measure
+pub data RisingBy {A : Type 0} (g : A → ℕ) : List A → Type 0 where
+  empty : RisingBy g []
+  more : {x : A} {xs : List A} → ((y : A) → y ∈ xs → g x < g y) → RisingBy g xs → RisingBy g (x ∷ xs)
 
-rising-snoc : {xs : List ℕ} {n : ℕ} → Rising xs → ((y : ℕ) → y ∈ xs → y < n) → Rising (xs ++ (n ∷ []))
-rising-snoc empty f = more (λ y m. absurd (List·Memᴰ·not-nil m)) empty
-rising-snoc {n = n} (more {x = x} {xs = xs} l r) f = more (λ y m. go y (List·Memᴰ·append-cases xs m)) (rising-snoc r (λ y m. f y (List·Memᴰ·tail m)))
+-- rising numbers
+abbrev pub Rising : List ℕ → Type 0
+Rising xs = RisingBy (λ i. i) xs
+
+pub rising-append : {A : Type 0} {g : A → ℕ} {xs ys : List A} → RisingBy g xs → RisingBy g ys → ((x y : A) → x ∈ xs → y ∈ ys → g x < g y) → RisingBy g (xs ++ ys)
+rising-append empty s f = s
+rising-append {A} {g} {ys = ys} (more {x = x} {xs = xs} l r) s f = more (λ y m. go y (List·Memᴰ·append-cases xs m)) (rising-append r s (λ z y m k. f z y (List·Memᴰ·tail m) k))
   where
-    go : (y : ℕ) → (y ∈ xs) ⊎ (y ∈ n ∷ []) → x < y
+    go : (y : A) → (y ∈ xs) ⊎ (y ∈ ys) → g x < g y
     go y (inl m) = l y m
-    go y (inr m) = rw (List·Memᴰ·eq-of-singleton m) (f x (List·Memᴰ·head refl))
+    go y (inr m) = f x y (List·Memᴰ·head refl) m
+
+pub rising-map : {A B : Type 0} (g : B → ℕ) (f : A → B) {xs : List A} → RisingBy (λ x. g (f x)) xs → RisingBy g (map f xs)
+rising-map g f empty = empty
+rising-map g f (more {x = x} {xs = xs} l r) = more {x = f x} (λ y m. let t = map-at f xs m in rw (t .2) (l (t .0) (t .1))) (rising-map g f r)
+
+pub rising-mono : {A : Type 0} {g h : A → ℕ} {xs : List A} → ((x y : A) → g x < g y → h x < h y) → RisingBy g xs → RisingBy h xs
+rising-mono f empty = empty
+rising-mono f (more {x = x} l r) = more (λ y m. f x y (l y m)) (rising-mono f r)
+
+pub rising-keep : {A : Type 0} {g : A → ℕ} (f : A → Bool) {xs : List A} → RisingBy g xs → RisingBy g (keep f xs)
+unfolding keep
+rising-keep f empty = empty
+rising-keep {g = g} f (more {x = x} {xs = xs} l r) = go (rising-keep f r) (dec (f x))
+  where
+    go : RisingBy g (keep f xs) → (f x ≡ true) ⊎ (f x ≡ false) → RisingBy g (keep f (x ∷ xs))
+    go q (inl p) = rw p (more (λ y m. l y (keep-at f xs m .0)) q)
+    go q (inr p) = rw p q
 
 pub rising-below : (n : ℕ) → Rising (below n)
 unfolding below
 rising-below zero = empty
-rising-below (suc n) = rising-snoc (rising-below n) (below-lt n)
-
-pub rising-keep : (f : ℕ → Bool) {xs : List ℕ} → Rising xs → Rising (keep f xs)
-unfolding keep
-rising-keep f empty = empty
-rising-keep f (more {x = x} {xs = xs} l r) = go (rising-keep f r) (dec (f x))
-  where
-    go : Rising (keep f xs) → (f x ≡ true) ⊎ (f x ≡ false) → Rising (keep f (x ∷ xs))
-    go q (inl p) = rw p (more (λ y m. l y (keep-at f xs m .0)) q)
-    go q (inr p) = rw p q
+rising-below (suc n) = rising-append (rising-below n) (more (λ y m. absurd (List·Memᴰ·not-nil m)) empty) (λ x y m k. rw (List·Memᴰ·eq-of-singleton k) (below-lt n x m))

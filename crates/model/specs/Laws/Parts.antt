@@ -19,7 +19,7 @@ use Rattle.model.specs.Values.{number, index, firstCode, partCode, sameP
 use Rattle.model.specs.Plant.{PartHealth, PartCommands, largest, generator, generatorBreaker, busBreaker, parts}
 use Rattle.model.specs.Reports.{atNumber, places, healthOf, commandsOf, healthPlaces, commandPlaces, reported}
 use Rattle.model.specs.Laws.Tests.{and-left, and-right, and-intro, dec, dec-eq, contra}
-use Rattle.model.specs.Laws.Lists.{_∈_, below-in, below-lt, below-length, below-at, map-in, map-at}
+use Rattle.model.specs.Laws.Lists.{_∈_, below-in, below-lt, below-length, below-at, map-in, map-at, RisingBy, rising-append, rising-map, rising-mono, rising-below}
 
 -- ---- one part
 
@@ -97,6 +97,27 @@ code-only n (GeneratorBreaker a) (BusBreaker b) h i j e = absurd (omega (arith, 
 code-only n (BusBreaker a) (Generator b) h i j e = absurd (omega (arith, index-suc a (i .0), index-suc b (j .0)))
 code-only n (BusBreaker a) (GeneratorBreaker b) h i j e = absurd (omega (arith, index-suc a (i .0), index-suc b (j .0)))
 code-only n (BusBreaker a) (BusBreaker b) h i j e = ap BusBreaker (omega (arith, index-suc a (i .0), index-suc b (j .0)))
+
+-- the parts of a ring stand in rising code
+pub parts-rise : (n : ℕ) → n ≤ largest → RisingBy partCode (parts n)
+unfolding parts partCode
+parts-rise n h =
+    rising-append (each Generator (λ i j l. omega arith))
+    (rising-append (each GeneratorBreaker (λ i j l. omega arith)) (each BusBreaker (λ i j l. omega arith)) (λ x y m k. apart GeneratorBreaker BusBreaker x y m k (λ i j l. omega arith)))
+    (λ x y m k. beyond x y m (List·Memᴰ·append-cases (map generatorBreaker (below n)) k))
+  where
+    each : (kind : ℕ → Part) → ((i j : ℕ) → i < j → partCode (kind (suc i)) < partCode (kind (suc j))) → RisingBy partCode (map (λ i. kind (suc i)) (below n))
+    each kind f = rising-map partCode (λ i. kind (suc i)) (rising-mono f (rising-below n))
+
+    apart : (a b : ℕ → Part) (x y : Part) → x ∈ map (λ i. a (suc i)) (below n) → y ∈ map (λ i. b (suc i)) (below n) → ((i j : ℕ) → i < largest → partCode (a (suc i)) < partCode (b (suc j))) → partCode x < partCode y
+    apart a b x y m k f =
+        let s = map-at (λ i. a (suc i)) (below n) m in
+        let t = map-at (λ i. b (suc i)) (below n) k in
+        rw (s .2, t .2) (f (s .0) (t .0) (omega (arith, below-lt n (s .0) (s .1))))
+
+    beyond : (x y : Part) → x ∈ map generator (below n) → (y ∈ map generatorBreaker (below n)) ⊎ (y ∈ map busBreaker (below n)) → partCode x < partCode y
+    beyond x y m (inl k) = apart Generator GeneratorBreaker x y m k (λ i j l. omega arith)
+    beyond x y m (inr k) = apart Generator BusBreaker x y m k (λ i j l. omega arith)
 
 -- ---- arrays of 20 places
 
