@@ -34,9 +34,12 @@ use Rattle.theory.specs.Demand2.{Distinct, Priorities, FirstPermitted, f
 
 -- ---- lists without repeats
 
-rising-distinct : {xs : List ℕ} → Rising xs → Distinct xs
+pub rising-distinct : {A : Type 0} {g : A → ℕ} {xs : List A} → RisingBy g xs → Distinct xs
 rising-distinct empty = d2.empty
-rising-distinct (more {x = x} l r) = d2.more (λ m. omega (arith, l x m)) (rising-distinct r)
+rising-distinct {g = g} (more {x = x} {xs = xs} l r) = d2.more out (rising-distinct r)
+  where
+    out : x ∈ xs → ⊥
+    out m = omega (arith, l x m)
 
 distinct-snoc : {A : Type 0} {xs : List A} {y : A} → Distinct xs → (y ∈ xs → ⊥) → Distinct (xs ++ (y ∷ []))
 distinct-snoc d2.empty f = d2.more (λ m. List·Memᴰ·not-nil m) d2.empty
@@ -99,7 +102,7 @@ member-split (List·Memᴰ·head {x = y} {xs = ys} p) = ([], ys, ap (λ z. z ∷
 member-split (List·Memᴰ·tail {x = y} m) = let t = member-split m in (y ∷ t .0, t .1, ap (λ l. y ∷ l) (t .2))
 
 -- a list without repeats is no longer than one that has all its members
-distinct-shorter : {A : Type 0} {xs : List A} → Distinct xs → (ys : List A) → ((x : A) → x ∈ xs → x ∈ ys) → length xs ≤ length ys
+pub distinct-shorter : {A : Type 0} {xs : List A} → Distinct xs → (ys : List A) → ((x : A) → x ∈ xs → x ∈ ys) → length xs ≤ length ys
 distinct-shorter d2.empty ys f = omega arith
 distinct-shorter {A} (d2.more {x = x} {xs = xs} g d) ys f = go (λ zs h. distinct-shorter d zs h) (member-split (f x (List·Memᴰ·head refl)))
   where
@@ -197,7 +200,7 @@ first-permitted n H ws (x ∷ xs) = go (first (permitted n H ws) xs) (first-perm
     go o (found front w back e q r) (inr p) = rw p (found (x ∷ front) w back (ap (λ l. x ∷ l) e) q (all-cons (λ v. permitted n H ws v ≡ false) p r))
     go o (not-found r) (inr p) = rw p (not-found (all-cons (λ v. permitted n H ws v ≡ false) p r))
 
-earlier-chosen : (n : ℕ) (H : PartHealth) (k : ℕ) → earlier (plan n H) k ≡ chosen n H k
+pub earlier-chosen : (n : ℕ) (H : PartHealth) (k : ℕ) → earlier (plan n H) k ≡ chosen n H k
 unfolding earlier chosen plan
 earlier-chosen n H zero = refl
 earlier-chosen n H (suc k) = rw (earlier-chosen n H k)
@@ -209,9 +212,20 @@ needed-commanded n H p = (
   λ e. let t = commanded-at n H p e in (t .0, rw (earlier-chosen n H n) (t .1), t .2),
 )
 
--- ---- what a served call's answer is
+-- ---- the operations of both phases, as propositions
 
-module _ {n : ℕ} {P : PlantState} {reply : Reply} (small : n ≤ largest) (a : AsChosen n P reply) where
+-- an operation is its part and its command
+is-operation : (c : Bool) (o : Operation) → o .command ≡ c → o ≡ operation c (o .part)
+is-operation c o e = λ i. record { part = o .part; command = e i }
+
+-- what is to open, and what is to close, for a plant
+abbrev pub ToOpen : ℕ → PlantState → (ℕ → Option Path) → Operation → Type 0
+ToOpen n P f o = (o .command ≡ false) × InRing n (o .part) × (P .last (o .part) ≡ true) × (Needed n f (o .part) → ⊥)
+
+abbrev pub ToClose : ℕ → PlantState → (ℕ → Option Path) → Operation → Type 0
+ToClose n P f o = (o .command ≡ true) × InRing n (o .part) × (P .last (o .part) ≡ false) × Needed n f (o .part)
+
+module _ (n : ℕ) (P : PlantState) where
   abbrev H : PartHealth
   H = P .health
 
@@ -220,10 +234,6 @@ module _ {n : ℕ} {P : PlantState} {reply : Reply} (small : n ≤ largest) (a :
 
   abbrev N : PartCommands
   N = commands n H
-
-  -- an operation is its part and its command
-  is-operation : (c : Bool) (o : Operation) → o .command ≡ c → o ≡ operation c (o .part)
-  is-operation c o e = λ i. record { part = o .part; command = e i }
 
   free : (p : Part) → N p ≡ false → Needed n (plan n H) p → ⊥
   free p e t = contra (needed-commanded n H p .0 t) e
@@ -235,37 +245,47 @@ module _ {n : ℕ} {P : PlantState} {reply : Reply} (small : n ≤ largest) (a :
       go (inl e) = absurd (f (needed-commanded n H p .1 e))
       go (inr e) = e
 
-  rise : (c : Bool) (f : Part → Bool) → RisingBy (λ (o : Operation). partCode (o .part)) (map (operation c) (keep f (parts n)))
-  rise c f = rising-map (λ (o : Operation). partCode (o .part)) (operation c) (rising-keep f (parts-rise n small))
+  pub opens-exactly : (o : Operation) → o ∈ map (operation false) (opening n L N) ↔ ToOpen n P (plan n H) o
+  opens-exactly o = (
+    λ m. let t = operation-at false (opening n L N) o m in let u = opening-at n L N (o .part) (t .1) in (t .0, u .0, u .1, free (o .part) (u .2)),
+    λ t. Memᴰ·cast (is-operation false o (t .0)) (map-in (operation false) (opening-in n L N (o .part) (t .1) (t .2) (idle (o .part) (t .3)))),
+  )
 
-  serves : Serves n P reply
-  unfolding opening closing plan choose
-  serves = record {
-    path = plan n H;
-    named = λ b hb. rw (a .choices-are) (choices-at n H b (record { choice = Dark }) hb small);
-    first-permitted = λ b hb. rw (earlier-chosen n H b) (chosen-first b);
-    phases = a .phases;
-    decodes = a .decodes;
-    opens = λ o. rw (a .first-is) (
-      λ m. let t = operation-at false (opening n L N) o m in let u = opening-at n L N (o .part) (t .1) in (t .0, u .0, u .1, free (o .part) (u .2)),
-      λ t. Memᴰ·cast (is-operation false o (t .0)) (map-in (operation false) (opening-in n L N (o .part) (t .1) (t .2) (idle (o .part) (t .3)))),
-    );
-    closes = λ o. rw (a .second-is) (
-      λ m. let t = operation-at true (closing n L N) o m in let u = closing-at n L N (o .part) (t .1) in (t .0, u .0, u .1, needed-commanded n H (o .part) .1 (u .2)),
-      λ t. Memᴰ·cast (is-operation true o (t .0)) (map-in (operation true) (closing-in n L N (o .part) (t .1) (t .2) (needed-commanded n H (o .part) .0 (t .3)))),
-    );
-    opens-rising = rw (a .first-is) (rise false (λ p. L p && not (N p)));
-    closes-rising = rw (a .second-is) (rise true (λ p. not (L p) && N p));
-    brings-about = λ Q q p i. about Q q p i;
-  }
-    where
-      chosen-first : (b : ℕ) → FirstPermitted n H (chosen n H b) (paths n b) (plan n H b)
-      chosen-first b = first-permitted n H (chosen n H b) (paths n b)
+  pub closes-exactly : (o : Operation) → o ∈ map (operation true) (closing n L N) ↔ ToClose n P (plan n H) o
+  closes-exactly o = (
+    λ m. let t = operation-at true (closing n L N) o m in let u = closing-at n L N (o .part) (t .1) in (t .0, u .0, u .1, needed-commanded n H (o .part) .1 (u .2)),
+    λ t. Memᴰ·cast (is-operation true o (t .0)) (map-in (operation true) (closing-in n L N (o .part) (t .1) (t .2) (needed-commanded n H (o .part) .0 (t .3)))),
+  )
 
-      about : (Q : PlantState) → Performed (a .phases) P Q → (p : Part) → InRing n p → Q .last p ≡ true ↔ Needed n (plan n H) p
-      about Q (performed {xs = xs} {ys = ys} dx dy) p i =
-          let e = both-done n P N xs ys (rw (a .first-is) at dx) (rw (a .second-is) at dy) p i in
-          (λ t. needed-commanded n H p .1 (sym e ∙ t), λ t. e ∙ needed-commanded n H p .0 t)
+  pub opens-rise : n ≤ largest → RisingBy (λ (o : Operation). partCode (o .part)) (map (operation false) (opening n L N))
+  unfolding opening
+  opens-rise small = rising-map (λ (o : Operation). partCode (o .part)) (operation false) (rising-keep (λ p. L p && not (N p)) (parts-rise n small))
+
+  pub closes-rise : n ≤ largest → RisingBy (λ (o : Operation). partCode (o .part)) (map (operation true) (closing n L N))
+  unfolding closing
+  closes-rise small = rising-map (λ (o : Operation). partCode (o .part)) (operation true) (rising-keep (λ p. not (L p) && N p) (parts-rise n small))
+
+-- ---- what a served call's answer is
+
+serves : {n : ℕ} {P : PlantState} {reply : Reply} → n ≤ largest → AsChosen n P reply → Serves n P reply
+unfolding plan choose
+serves {n} {P} small a = record {
+  path = plan n (P .health);
+  named = λ b hb. rw (a .choices-are) (choices-at n (P .health) b (record { choice = Dark }) hb small);
+  first-permitted = λ b hb. rw (earlier-chosen n (P .health) b) (first-permitted n (P .health) (chosen n (P .health) b) (paths n b));
+  phases = a .phases;
+  decodes = a .decodes;
+  opens = λ o. rw (a .first-is) (opens-exactly n P o);
+  closes = λ o. rw (a .second-is) (closes-exactly n P o);
+  opens-rising = rw (a .first-is) (opens-rise n P small);
+  closes-rising = rw (a .second-is) (closes-rise n P small);
+  brings-about = about;
+}
+  where
+    about : (Q : PlantState) → Performed (a .phases) P Q → (p : Part) → InRing n p → Q .last p ≡ true ↔ Needed n (plan n (P .health)) p
+    about Q (performed {xs = xs} {ys = ys} dx dy) p i =
+        let e = both-done n P (commands n (P .health)) xs ys (rw (a .first-is) at dx) (rw (a .second-is) at dy) p i in
+        (λ t. needed-commanded n (P .health) p .1 (sym e ∙ t), λ t. e ∙ needed-commanded n (P .health) p .0 t)
 
 pub demand2 : Demand2 controller
 demand2 = record {

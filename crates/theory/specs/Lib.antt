@@ -12,4 +12,5 @@ pub mod Steady
 pub mod Demand3Holds
 pub mod Demand2
 pub mod Demand2Holds
+pub mod Wrong
 pub mod Settled
