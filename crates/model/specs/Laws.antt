@@ -1,4 +1,6 @@
 pub mod Tests
 pub mod Lists
 pub mod Parts
+pub mod Sheet
 pub mod Reports
+pub mod Refusals

@@ -1,10 +1,11 @@
 -- Laws of the list searches: what is a member of each, and what each finds.
 use mathlib.Core.Path.{_≡_, refl, sym, _∙_, ap}
-use mathlib.Core.Bool.{Bool, true, false, _&&_, _||_, cond}
+use mathlib.Core.Bool.{Bool, true, false, _&&_, _||_, cond, or-false, or-assoc}
 use mathlib.Core.Logic.{_⊎_, inl, inr, _≢_}
 use mathlib.Core.List.{List, [], _∷_, _++_, map, flatMap, List·Memᴰ, List·Memᴰ·head, List·Memᴰ·tail, List·Memᴰ·not-nil, List·Memᴰ·cases-cons, List·Memᴰ·append-cases, List·Memᴰ·eq-of-singleton, Memᴰ·append-left, Memᴰ·append-right}
 use mathlib.Core.Option.{Option, none, some}
-use Prim.Native.Nat.{ℕ, zero, suc, _<_, _≤_}
+use Prim.Native.Nat.{ℕ, zero, suc, _+_, _<_, _≤_}
+use native.Mathlib.Numerals.{add-one}
 use native.Mathlib.Omega.{arith}
 use lib.ListN.{length, getD, length-append, length-map, List·getD-append}
 use lib.Seq.{getD-append-seam}
@@ -139,6 +140,15 @@ module _ {A : Type 0} (f : A → Bool) where
   all-ext g [] h = refl
   all-ext g (x ∷ xs) h = rw (h x (List·Memᴰ·head refl), all-ext g xs (λ y m. h y (List·Memᴰ·tail m)))
 
+-- one index more
+pub any-below : (f : ℕ → Bool) (i : ℕ) {b : Bool} → b ≡ anyOf f (below i) → b || f i ≡ anyOf f (below (i + 1))
+unfolding below anyOf
+any-below f i e = rw (add-one, e) (go (below i))
+  where
+    go : (xs : List ℕ) → anyOf f xs || f i ≡ anyOf f (xs ++ (i ∷ []))
+    go [] = sym (or-false (f i))
+    go (x ∷ xs) = or-assoc (f x) (anyOf f xs) (f i) ∙ ap (λ b. f x || b) (go xs)
+
 -- ---- keep
 
 module _ {A : Type 0} (f : A → Bool) where
@@ -186,6 +196,31 @@ module _ {A : Type 0} (f : A → Bool) where
       go : length (keep f xs) ≤ length xs → (f x ≡ true) ⊎ (f x ≡ false) → length (keep f (x ∷ xs)) ≤ suc (length xs)
       go r (inl p) = rw p (omega arith)
       go r (inr p) = rw p (omega arith)
+
+pub keep-none : {A : Type 0} (f : A → Bool) (xs : List A) → ((x : A) → x ∈ xs → f x ≡ false) → keep f xs ≡ []
+unfolding keep
+keep-none f [] h = refl
+keep-none f (x ∷ xs) h = rw (h x (List·Memᴰ·head refl)) (keep-none f xs (λ y m. h y (List·Memᴰ·tail m)))
+
+pub keep-map : {A B : Type 0} (f : B → Bool) (g : A → B) (xs : List A) → keep f (map g xs) ≡ map g (keep (λ x. f (g x)) xs)
+unfolding keep
+keep-map f g [] = refl
+keep-map f g (x ∷ xs) = go (keep-map f g xs) (dec (f (g x)))
+  where
+    go : keep f (map g xs) ≡ map g (keep (λ y. f (g y)) xs) → (f (g x) ≡ true) ⊎ (f (g x) ≡ false) → keep f (map g (x ∷ xs)) ≡ map g (keep (λ y. f (g y)) (x ∷ xs))
+    go r (inl p) = rw (p, r)
+    go r (inr p) = rw (p, r)
+
+-- two tests that no element passes both of keep no more elements than there are
+pub keep-apart : {A : Type 0} (f g : A → Bool) → ((x : A) → f x ≡ true → g x ≡ false) → (xs : List A) → length (keep f xs) + length (keep g xs) ≤ length xs
+unfolding keep
+keep-apart f g apart [] = omega arith
+keep-apart f g apart (x ∷ xs) = go (keep-apart f g apart xs) (dec (f x)) (dec (g x))
+  where
+    go : length (keep f xs) + length (keep g xs) ≤ length xs → (f x ≡ true) ⊎ (f x ≡ false) → (g x ≡ true) ⊎ (g x ≡ false) → length (keep f (x ∷ xs)) + length (keep g (x ∷ xs)) ≤ length (x ∷ xs)
+    go r (inl p) q = rw (p, apart x p) (omega arith)
+    go r (inr p) (inl q) = rw (p, q) (omega arith)
+    go r (inr p) (inr q) = rw (p, q) (omega arith)
 
 -- ---- first
 

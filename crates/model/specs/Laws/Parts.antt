@@ -3,10 +3,10 @@ use mathlib.Core.Path.{_≡_, refl, sym, _∙_, ap, ap₂}
 use mathlib.Core.Bool.{Bool, true, false, _&&_, cond}
 use mathlib.Core.Logic.{_⊎_, inl, inr, _≢_}
 use mathlib.Core.List.{List, [], _∷_, _++_, map, List·Memᴰ·append-cases, Memᴰ·append-left, Memᴰ·append-right}
-use Prim.Native.Nat.{ℕ, zero, suc, _+_, _≤_, _<_}
+use Prim.Native.Nat.{ℕ, zero, suc, _+_, _*_, _≤_, _<_}
 use native.Mathlib.Omega.{arith}
 use lib.Dec.{eqb}
-use lib.ListN.{length, getD, set, length-map, length-set, List·getD-map}
+use lib.ListN.{length, getD, set, length-map, length-set, length-append}
 use lib.Seq.{ext-getD, getD-set-same, getD-set-other}
 use borrow.Author.Tests.{eqb-true, eq-eqb, ne-eqb}
 use Rattle.model.specs.declared.Part.{Part}
@@ -79,6 +79,23 @@ parts-at n p m = go (List·Memᴰ·append-cases (map generator (below n)) m)
     go (inl x) = kind-at Generator (λ k. refl) n p x
     go (inr x) = breakers (List·Memᴰ·append-cases (map generatorBreaker (below n)) x)
 
+-- what holds of every part of a ring of i, and of the three parts at place i, holds of every part of a ring of i + 1
+pub ring-more : (P : Part → Type 0) (i : ℕ) → ((p : Part) → InRing i p → P p) → P (generator i) → P (generatorBreaker i) → P (busBreaker i) → (p : Part) → InRing (i + 1) p → P p
+ring-more P i h a b c = go
+  where
+    kind : (part : ℕ → Part) → P (part (suc i)) → (k : ℕ) → (k ≤ i → P (part k)) → k ≤ i + 1 → (k ≡ suc i) ⊎ (k ≢ suc i) → P (part k)
+    kind part here k before l (inl e) = rw e here
+    kind part here k before l (inr e) = before (omega arith)
+
+    go : (p : Part) → InRing (i + 1) p → P p
+    go (Generator k) m = kind Generator a k (λ l. h (Generator k) (m .0, l)) (m .1) (dec-eq k (suc i))
+    go (GeneratorBreaker k) m = kind GeneratorBreaker b k (λ l. h (GeneratorBreaker k) (m .0, l)) (m .1) (dec-eq k (suc i))
+    go (BusBreaker k) m = kind BusBreaker c k (λ l. h (BusBreaker k) (m .0, l)) (m .1) (dec-eq k (suc i))
+
+pub parts-length : (n : ℕ) → length (parts n) ≡ 3 * n
+unfolding parts
+parts-length n = simp (length-append, length-map, below-length) (omega arith)
+
 -- ---- codes
 
 index-suc : (k : ℕ) → 0 < k → suc (index k) ≡ k
@@ -145,6 +162,14 @@ module _ {A : Type 0} (f : ℕ → A) where
 
 pub places-ext : {A : Type 0} (f g : ℕ → A) → ((i : ℕ) → i < largest → f i ≡ g i) → places f ≡ places g
 places-ext f g h = is-places g (places f) (f 0) (places-length f) (λ i l. places-at f i (f 0) l ∙ h i l)
+
+-- a store at place k makes the array that holds g of one that holds g at every other place
+pub places-set : {A : Type 0} (f g : ℕ → A) (k : ℕ) → ((i : ℕ) → i ≢ k → f i ≡ g i) → set (places f) k (g k) ≡ places g
+places-set f g k h = is-places g (set (places f) k (g k)) (g k) (length-set (places f) k (g k) ∙ places-length f) (λ i l. at i l (dec-eq i k))
+  where
+    at : (i : ℕ) → i < largest → (i ≡ k) ⊎ (i ≢ k) → getD (set (places f) k (g k)) i (g k) ≡ g i
+    at i l (inl e) = rw e (getD-set-same (places f) k (g k) (g k) (omega (arith, places-length f)))
+    at i l (inr e) = getD-set-other (places f) k i (g k) (g k) e ∙ places-at f i (g k) l ∙ h i e
 
 -- what stands at a number of the array
 at-places : {A : Type 0} (f : ℕ → A) (d : A) (k : ℕ) → 0 < k → k ≤ largest → (g : ℕ → A) → ((i : ℕ) → g (suc i) ≡ f i) → atNumber d (places f) k ≡ g k

@@ -6,7 +6,7 @@ use Prim.Native.Nat.{ℕ, _≤_, _<_}
 use native.Mathlib.Omega.{arith}
 use native.Mathlib.Decide.{ℕ-discrete}
 use lib.Dec.{ltb}
-use borrow.Author.Tests.{ltb-true, ltb-false}
+use borrow.Author.Tests.{ltb-true, ltb-false, lt-ltb, le-ltb, le-leb, lt-leb, eq-eqb, ne-eqb}
 
 pub contra : {A : Type 0} {b : Bool} → b ≡ true → b ≡ false → A
 contra {b = b} p q = let z : _≡_ {A = ℕ} 0 1 = cc in absurd (omega arith)
@@ -68,3 +68,11 @@ dec-lt a b = go (dec (ltb a b))
 pub by-cond : {A : Type 0} {x y : A} (P : A → Type 0) (t : Bool) → (t ≡ true → P x) → (t ≡ false → P y) → P (cond t x y)
 by-cond P true f g = f refl
 by-cond P false f g = g refl
+
+-- what a test picks, where its choice differs only when it holds
+pub cond-ext : {A : Type 0} (t : Bool) {x y : A} (z : A) → (t ≡ true → x ≡ y) → cond t x z ≡ cond t y z
+cond-ext true z e = e refl
+cond-ext false z e = refl
+
+-- the tests of a path through the code, for `search tests`
+pub ruleset tests = (lt-ltb, le-ltb, le-leb, lt-leb, eq-eqb, ne-eqb)

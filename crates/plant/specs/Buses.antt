@@ -1,0 +1,45 @@
+-- The answers of the buses, taken one by one.
+use mathlib.Core.Path.{_≡_}
+use mathlib.Core.Bool.{cond}
+use mathlib.Core.Logic.{_⊎_, inl, inr, _≢_}
+use mathlib.Core.List.{List}
+use Prim.Native.Nat.{ℕ, _+_, _≤_, _<_}
+use native.Mathlib.Omega.{arith}
+use lib.Dec.{ltb}
+use lib.ListN.{set}
+use borrow.Author.Tests.{lt-ltb, le-ltb}
+use Rattle.model.specs.declared.Feed.{Feed}
+use Rattle.model.specs.declared.Feed.the-variants.{Dark}
+use Rattle.model.specs.declared.BusFeed.{BusFeed}
+use Rattle.model.specs.Reports.{places}
+use Rattle.model.specs.Laws.Tests.{dec-lt}
+use Rattle.model.specs.Laws.Parts.{places-ext}
+use Rattle.model.specs.Laws.Parts.{places-set}
+
+-- no bus is fed
+abbrev pub darkBuses : List BusFeed
+darkBuses = places (λ b. record { feed = Dark })
+
+-- the answer f of a bus among the first k; any other is dark
+abbrev pub feedBelow : (ℕ → Feed) → ℕ → ℕ → BusFeed
+feedBelow f k b = record { feed = cond (ltb b k) (f b) Dark }
+
+-- the answers f of the first k buses; all others are dark
+unfoldable pub feedsBelow : (ℕ → Feed) → ℕ → List BusFeed
+feedsBelow f k = places (feedBelow f k)
+
+module _ (f : ℕ → Feed) where
+  pub buses-none : darkBuses ≡ feedsBelow f 0
+  unfolding feedsBelow
+  buses-none = places-ext _ _ (λ b l. rw (le-ltb b 0 (omega arith)))
+
+  pub buses-more : (k : ℕ) → set (feedsBelow f k) k (record { feed = f k }) ≡ feedsBelow f (k + 1)
+  unfolding feedsBelow
+  buses-more k = rw (← here) (places-set (feedBelow f k) (feedBelow f (k + 1)) k (λ b ne. other b ne (dec-lt b k)))
+    where
+      here : feedBelow f (k + 1) k ≡ record { feed = f k }
+      here = rw (lt-ltb k (k + 1) (omega arith))
+
+      other : (b : ℕ) → b ≢ k → (b < k) ⊎ (k ≤ b) → feedBelow f k b ≡ feedBelow f (k + 1) b
+      other b ne (inl l) = rw (lt-ltb b k l, lt-ltb b (k + 1) (omega arith))
+      other b ne (inr l) = rw (le-ltb b k l, le-ltb b (k + 1) (omega arith))

@@ -1,0 +1,209 @@
+// The plant reckoning of document 01: who feeds each bus, by the health and the commands of the parts.
+// Buses, generators and breakers are indices from 0 here, the paper's numbers less 1; an answer names numbers.
+ghost use mathlib.Core.Path.{_≡_};
+ghost use mathlib.Core.Bool.{_&&_, _||_};
+ghost use mathlib.Core.List.{map};
+ghost use Prim.Native.Nat.{_≤_, _<_};
+ghost use Rattle.model.specs.Lists.{allOf};
+ghost use Rattle.model.specs.Values.{outcomeNumber, feedSources};
+ghost use Rattle.model.specs.Plant.{fit, stuckOff, stuckOpen, stuckClosed, closed, next as nextBus, up, arc, connected as connectedBuses, busBreakerClosed, feeds as feedsOf, busFeed, parts};
+ghost use Rattle.model.specs.Reports.{places, healthOf, commandsOf};
+ghost use Rattle.model.specs.Refusals.{sizeOutside, healthOutside, feedsRefusal};
+ghost use Rattle.model.specs.Answers.{feedsAnswer};
+ghost use Rattle.plant.specs.Feeders.{withFeeder};
+ghost use Rattle.plant.specs.Buses.{darkBuses, feedsBelow};
+ghost use Rattle.plant.specs.Answer.{refusedAnswer, sourcesNamed};
+use model::BusFeed;
+use model::Commands;
+use model::Feed;
+use model::FeedsAnswer;
+use model::Health;
+use model::Outcome;
+
+// A health is the number of the word that brought it about.
+const FIT: u8 = 0;
+
+const STUCK_OFF: u8 = 1;
+
+const STUCK_OPEN: u8 = 2;
+
+const STUCK_CLOSED: u8 = 3;
+
+// Whether a generator of this health is fit: fitness is judged here alone.
+fn is_fit(health: u8) -> bool
+    ensures { λ r. ⌜ r ≡ fit health ⌝ }
+{
+    health == FIT
+}
+
+// "A generator is running when it is fit and ordered on"
+fn is_running(health: u8, command: bool) -> bool
+    ensures { λ r. ⌜ r ≡ fit health && command ⌝ }
+{
+    is_fit(health) && command
+}
+
+// "A fit part does what it was last ordered; a stuck part ignores orders.": whether a breaker is closed is judged here
+// alone.
+fn is_closed(health: u8, command: bool) -> bool
+    ensures { λ r. ⌜ r ≡ closed health command ⌝ }
+{
+    health == STUCK_CLOSED || (health != STUCK_OPEN && command)
+}
+
+// "BBn joins Bn and B1": the bus after bus i.
+fn next(n: usize, i: usize) -> usize
+    requires { ⌜ (i < n) × (n ≤ 20) ⌝ }
+    ensures { λ r. ⌜ r ≡ nextBus n i ⌝ }
+{
+    if i + 1 == n { 0 } else { i + 1 }
+}
+
+// Whether every bus breaker met from bus a to bus b through rising bus numbers is closed.
+fn arc_closed(n: usize, health: Health, commands: Commands, a: usize, b: usize) -> bool
+    requires { ⌜ (a < n) × (b < n) × (n ≤ 20) ⌝ }
+    ensures { λ r. ⌜ r ≡ allOf (busBreakerClosed (healthOf health) (commandsOf commands)) (arc n a (up n a b)) ⌝ }
+{
+    let mut i = a;
+    while i != b {
+        if !is_closed(health.bus_breakers[i], commands.bus_breakers[i]) {
+            return false;
+        }
+        i = next(n, i);
+    }
+    true
+}
+
+// "Two buses are joined when closed bus breakers lead from one to the other; a bus is joined to itself."
+fn connected(n: usize, health: Health, commands: Commands, a: usize, b: usize) -> bool
+    requires { ⌜ (a < n) × (b < n) × (n ≤ 20) ⌝ }
+    ensures { λ r. ⌜ r ≡ connectedBuses n (busBreakerClosed (healthOf health) (commandsOf commands)) a b ⌝ }
+{
+    arc_closed(n, health, commands, a, b) || arc_closed(n, health, commands, b, a)
+}
+
+// "it feeds every bus joined to its own while its generator breaker is closed": whether generator g feeds bus b.
+fn feeds_bus(n: usize, health: Health, commands: Commands, b: usize, g: usize) -> bool
+    requires { ⌜ (b < n) × (g < n) × (n ≤ 20) ⌝ }
+    ensures { λ r. ⌜ r ≡ feedsOf n (healthOf health) (commandsOf commands) b g ⌝ }
+{
+    is_running(health.generators[g], commands.generators[g])
+        && (is_closed(health.generator_breakers[g], commands.generator_breakers[g])
+            && connected(n, health, commands, g, b))
+}
+
+// "For each bus its answer is one of three: dark, fed by one generator, or a clash that names the two lowest generators
+// feeding it.": the answer with one feeding generator more, whose number is higher than those before.
+fn with_feeder(feed: Feed, generator: u8) -> Feed
+    ensures { λ r. ⌜ r ≡ withFeeder feed generator ⌝ }
+{
+    match feed {
+        Feed::Dark => Feed::Fed(generator),
+        Feed::Fed(lowest) => Feed::Clash(lowest, generator),
+        Feed::Clash(lowest, second) => Feed::Clash(lowest, second),
+    }
+}
+
+// Who feeds bus b.
+fn bus_feed(n: usize, health: Health, commands: Commands, b: usize) -> Feed
+    requires { ⌜ (b < n) × (n ≤ 20) ⌝ }
+    ensures { λ r. ⌜ r ≡ busFeed n (healthOf health) (commandsOf commands) b ⌝ }
+{
+    let mut feed = Feed::Dark;
+    for g in 0..n {
+        if feeds_bus(n, health, commands, b, g) {
+            feed = with_feeder(feed, (g + 1) as u8);
+        }
+    }
+    feed
+}
+
+// "the buses of a refused reckoning are all dark"
+fn dark_buses() -> [BusFeed; 20]
+    ensures { λ r. ⌜ r ≡ darkBuses ⌝ }
+{
+    let dark = BusFeed { feed: Feed::Dark };
+    [dark; 20]
+}
+
+// Who feeds each bus; "so, always, is a bus above n" dark.
+fn bus_feeds(n: usize, health: Health, commands: Commands) -> [BusFeed; 20]
+    requires { ⌜ n ≤ 20 ⌝ }
+    ensures { λ r. ⌜ r ≡ feedsBelow (busFeed n (healthOf health) (commandsOf commands)) n ⌝ }
+{
+    let mut buses = dark_buses();
+    for b in 0..n {
+        let feed = bus_feed(n, health, commands, b);
+        buses[b] = BusFeed { feed: feed };
+    }
+    buses
+}
+
+// "A generator is fit or stuck off."
+fn generator_health(health: u8) -> bool
+    ensures { λ r. ⌜ r ≡ fit health || stuckOff health ⌝ }
+{
+    health == FIT || health == STUCK_OFF
+}
+
+// "A breaker is fit, stuck open or stuck closed."
+fn breaker_health(health: u8) -> bool
+    ensures { λ r. ⌜ r ≡ fit health || stuckOpen health || stuckClosed health ⌝ }
+{
+    health == FIT || (health == STUCK_OPEN || health == STUCK_CLOSED)
+}
+
+// 9 "only for a part up to n whose health is not one of its kind"
+fn health_outside(n: usize, health: Health) -> bool
+    requires { ⌜ n ≤ 20 ⌝ }
+    ensures { λ r. ⌜ r ≡ healthOutside (healthOf health) (parts n) ⌝ }
+{
+    for i in 0..n {
+        if !generator_health(health.generators[i]) {
+            return true;
+        }
+        if !breaker_health(health.generator_breakers[i]) {
+            return true;
+        }
+        if !breaker_health(health.bus_breakers[i]) {
+            return true;
+        }
+    }
+    false
+}
+
+// 2: "n below 3 or above 20"
+fn size_outside(n: u8) -> bool
+    ensures { λ r. ⌜ r ≡ sizeOutside n ⌝ }
+{
+    n < 3 || 20 < n
+}
+
+// "Each has its number as the answer"; "the buses of a refused reckoning are all dark"
+fn refused(number: u8) -> FeedsAnswer
+    ensures { λ r. ⌜ r ≡ refusedAnswer number ⌝ }
+{
+    FeedsAnswer {
+        outcome: Outcome::Refused(number),
+        buses: dark_buses(),
+    }
+}
+
+// "The plant reckoning takes n, the health of all parts and any set of orders."; it checks "2, then 9".
+pub fn feeds(n: u8, health: Health, commands: Commands) -> FeedsAnswer
+    ensures { λ r. ⌜ r ≡ feedsAnswer n health commands ⌝ }
+    ensures { λ r. ⌜ outcomeNumber (r .outcome) ≡ feedsRefusal n (healthOf health) ⌝ }
+    ensures { λ r. ⌜ map (λ bus. feedSources (bus .feed)) (r .buses) ≡ places (sourcesNamed n health commands) ⌝ }
+{
+    if size_outside(n) {
+        return refused(2);
+    }
+    let size = n as usize;
+    if health_outside(size, health) {
+        return refused(9);
+    }
+    FeedsAnswer {
+        outcome: Outcome::Served,
+        buses: bus_feeds(size, health, commands),
+    }
+}

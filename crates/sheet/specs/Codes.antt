@@ -1,0 +1,92 @@
+-- The part codes of each phase, collected kind by kind.
+use mathlib.Core.Path.{_≡_, refl, ap}
+use mathlib.Core.Bool.{Bool, true, false, not, _&&_, cond, Bool·beq}
+use mathlib.Core.List.{List, [], _∷_, _++_, map, map-append, map-map, append-assoc, append-nil}
+use Prim.Native.Nat.{ℕ, _+_, _≤_}
+use native.Mathlib.Numerals.{add-one}
+use native.Mathlib.Omega.{arith}
+use lib.ListN.{getD, set}
+use Rattle.model.specs.declared.Part.{Part}
+use Rattle.model.specs.declared.Commands.{Commands}
+use Rattle.model.specs.Lists.{below, keep, anyOf}
+use Rattle.model.specs.Values.{partCode}
+use Rattle.model.specs.Plant.{largest, generator, generatorBreaker, busBreaker, parts}
+use Rattle.model.specs.Sheet.{opening, closing}
+use Rattle.model.specs.Reports.{commandsOf}
+use Rattle.model.specs.Laws.Tests.{contra, by-cond}
+use Rattle.model.specs.Laws.Lists.{_∈_, below-in, below-lt, any-none, keep-append}
+use Rattle.model.specs.Laws.Lists.{keep-map, keep-none}
+use Rattle.sheet.specs.Appended.{Appended, appended-none, appended-one}
+
+-- the codes of the opening phase
+abbrev pub openingCodes : ℕ → Commands → Commands → List ℕ
+openingCodes n old new = map partCode (opening n (commandsOf old) (commandsOf new))
+
+-- the codes of the closing phase
+abbrev pub closingCodes : ℕ → Commands → Commands → List ℕ
+closingCodes n old new = map partCode (closing n (commandsOf old) (commandsOf new))
+
+-- the command at index i of a kind changes
+abbrev pub changes : List Bool → List Bool → ℕ → Bool
+changes old new i = not (Bool·beq (getD old i false) (getD new i false))
+
+-- .. to off or open
+abbrev pub opens : List Bool → List Bool → ℕ → Bool
+opens old new i = getD old i false && not (getD new i false)
+
+-- .. to on or closed
+abbrev pub closes : List Bool → List Bool → ℕ → Bool
+closes old new i = not (getD old i false) && getD new i false
+
+-- the codes of the parts of a kind that pass a test, below index k; the kind's first code is base
+unfoldable pub codes : (ℕ → Bool) → ℕ → ℕ → List ℕ
+codes test base k = map (λ i. base + i) (keep test (below k))
+
+-- ---- one command: it changes to on, to off, or not at all
+
+pub turned-on : (was now : Bool) → not (Bool·beq was now) ≡ true → now ≡ true → (was && not now ≡ false) × (not was && now ≡ true)
+turned-on true true d e = contra d refl
+turned-on false true d e = (refl, refl)
+turned-on was false d e = contra e refl
+
+pub turned-off : (was now : Bool) → not (Bool·beq was now) ≡ true → now ≡ false → (was && not now ≡ true) × (not was && now ≡ false)
+turned-off true false d e = (refl, refl)
+turned-off false false d e = contra d refl
+turned-off was true d e = contra refl e
+
+pub kept : (was now : Bool) → not (Bool·beq was now) ≡ false → (was && not now ≡ false) × (not was && now ≡ false)
+kept true true e = (refl, refl)
+kept false false e = (refl, refl)
+kept true false e = contra refl e
+kept false true e = contra refl e
+
+-- where no command of a kind changes, none opens or closes
+pub unchanged : (old new : List Bool) (n : ℕ) → n ≤ largest → anyOf (changes old new) (below largest) ≡ false
+    → (i : ℕ) → i ∈ below n → (opens old new i ≡ false) × (closes old new i ≡ false)
+unchanged old new n h e i m = kept (getD old i false) (getD new i false) (any-none (changes old new) e (below-in largest i (omega (arith, below-lt n i m))))
+
+-- ---- one kind
+
+pub codes-none : (test : ℕ → Bool) (base n : ℕ) {l : List ℕ} {c : ℕ} → ((i : ℕ) → i ∈ below n → test i ≡ false) → Appended (codes test base n) l c l c
+unfolding codes
+codes-none test base n h = rw (keep-none test (below n) h) (appended-none _ _)
+
+-- one index more: its part is passed over, or its code appended
+module _ (test : ℕ → Bool) (base i : ℕ) where
+  more : codes test base (i + 1) ≡ codes test base i ++ cond (test i) ((base + i) ∷ []) []
+  unfolding codes below keep
+  more = rw (add-one, keep-append, map-append) (ap (λ l. codes test base i ++ l) (by-cond (λ l. map (λ j. base + j) l ≡ cond (test i) ((base + i) ∷ []) []) (test i) (λ e. rw e) (λ e. rw e)))
+
+  module _ {l l′ : List ℕ} {c j : ℕ} (a : Appended (codes test base i) l c l′ j) where
+    pub codes-miss : test i ≡ false → Appended (codes test base (i + 1)) l c l′ j
+    codes-miss e = rw (more, e, append-nil) a
+
+    pub codes-hit : test i ≡ true → Appended (codes test base (i + 1)) l c (set l′ j (base + i)) (j + 1)
+    codes-hit e = appended-one (base + i) (rw (more, e)) refl a
+
+-- ---- all kinds
+
+pub codes-parts : (f : Part → Bool) (n : ℕ)
+    → map partCode (keep f (parts n)) ≡ codes (λ i. f (generator i)) 0 n ++ codes (λ i. f (generatorBreaker i)) 32 n ++ codes (λ i. f (busBreaker i)) 64 n
+unfolding codes parts partCode
+codes-parts f n = simp (keep-append, keep-map, map-append, map-map, append-assoc)

@@ -1,0 +1,36 @@
+-- The bytes of the command sheet in the order in which they are stored.
+use mathlib.Core.Path.{_≡_, refl, ap}
+use mathlib.Core.List.{List, [], _∷_, _++_, map, map-append, append-assoc}
+use Prim.Native.Nat.{ℕ, _+_, _*_, _≤_}
+use native.Mathlib.Omega.{arith}
+use lib.ListN.{length, replicate, length-append, length-map, length-replicate}
+use Rattle.model.specs.declared.Part.{Part}
+use Rattle.model.specs.declared.Commands.{Commands}
+use Rattle.model.specs.Sheet.{sheetOf, sheet, written}
+use Rattle.model.specs.Reports.{commandsOf}
+use Rattle.sheet.specs.Appended.{Appended, appended-written}
+use Rattle.sheet.specs.Codes.{openingCodes, closingCodes}
+
+-- the sheet of the codes of both phases
+unfoldable pub layout : List ℕ → List ℕ → List ℕ
+layout xs ys = length xs ∷ length ys ∷ (xs ++ ys ++ replicate (length xs) 0 ++ replicate (length ys) 1)
+
+map-const : (n : ℕ) (xs : List Part) → map (λ p. n) xs ≡ replicate (length xs) n
+map-const n [] = refl
+map-const n (x ∷ xs) = ap (λ l. n ∷ l) (map-const n xs)
+
+pub sheet-layout : (n : ℕ) (old new : Commands) → sheet n (commandsOf old) (commandsOf new) ≡ layout (openingCodes n old new) (closingCodes n old new)
+unfolding sheet sheetOf layout
+sheet-layout n old new = simp (map-append, map-const, length-map, append-assoc)
+
+pub layout-length : (xs ys : List ℕ) → length (layout xs ys) ≡ 2 + 2 * (length xs + length ys)
+unfolding layout
+layout-length xs ys = simp (length-append, length-replicate) (omega arith)
+
+-- sizes, codes and commands, stored one after the other from the front on
+pub laid-out : (xs ys : List ℕ) {l l′ : List ℕ} {o c j : ℕ} → length xs ≡ o → length ys ≡ c → 2 + 2 * (o + c) ≤ length l
+    → Appended (o ∷ c ∷ (xs ++ ys ++ replicate o 0 ++ replicate c 1)) l 0 l′ j → l′ ≡ written (layout xs ys) l
+unfolding layout
+laid-out xs ys {l} {l′} {j = j} p q h a =
+    let b : Appended (layout xs ys) l 0 l′ j = rw (p, q) a in
+    appended-written b (omega (arith, layout-length xs ys))

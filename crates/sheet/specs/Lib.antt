@@ -1,0 +1,4 @@
+pub mod Appended
+pub mod Codes
+pub mod Layout
+pub mod Writing

@@ -1,0 +1,174 @@
+// The command sheet (document 01: order sheet): both phases, and the sheet in a lent buffer.
+ghost use mathlib.Core.Path.{_≡_};
+ghost use Prim.Native.Nat.{_+_, _*_, _≤_};
+ghost use lib.ListN.{length, take, replicate};
+ghost use Rattle.model.specs.Lists.{below, anyOf};
+ghost use Rattle.model.specs.Reports.{commandsOf};
+ghost use Rattle.model.specs.Sheet.{sheet, written};
+ghost use Rattle.sheet.specs.Appended.{Appended};
+ghost use Rattle.sheet.specs.Codes.{changes, opens, closes, codes, openingCodes, closingCodes};
+ghost use Rattle.sheet.specs.Layout.{layout};
+ghost use Rattle.sheet.specs.Writing.{writeOutcome, writeBuffer};
+use model::Commands;
+use model::Outcome;
+
+// How many codes of each phase are held.
+struct Counts {
+    opening: usize,
+    closing: usize,
+}
+
+// Whether a command of one kind of part changes. Most reports change none, and this loop without a branch compiles to a few wide
+// comparisons.
+fn differ(old: &[bool; 20], new: &[bool; 20]) -> bool
+    ensures { λ r. ⌜ r ≡ anyOf (changes (now (old .entry)) (now (new .entry))) (below 20) ⌝ }
+{
+    let mut any = false;
+    for i in 0..20 {
+        any |= old[i] != new[i];
+    }
+    any
+}
+
+// Appends the codes of one kind of part to their phases: `base` is the code of the kind's first part.
+fn collect(
+    n: usize,
+    old: &[bool; 20],
+    new: &[bool; 20],
+    base: u8,
+    opening: &mut [u8; 60],
+    closing: &mut [u8; 60],
+    counts: Counts,
+) -> Counts
+    requires { ⌜ (n ≤ 20) × (base ≤ 64) × (counts .opening + n ≤ 60) × (counts .closing + n ≤ 60) ⌝ }
+    ensures opening_phase { λ r. ⌜ Appended (codes (opens (now (old .entry)) (now (new .entry))) base n) (now (opening .entry)) (counts .opening) (now (opening .exit)) (r .opening) ⌝ }
+    ensures closing_phase { λ r. ⌜ Appended (codes (closes (now (old .entry)) (now (new .entry))) base n) (now (closing .entry)) (counts .closing) (now (closing .exit)) (r .closing) ⌝ }
+    ensures most { λ r. ⌜ (r .opening ≤ counts .opening + n) × (r .closing ≤ counts .closing + n) ⌝ }
+{
+    if !differ(old, new) {
+        return counts;
+    }
+    let mut opened = counts.opening;
+    let mut closed = counts.closing;
+    for i in 0..n {
+        let command = new[i];
+        if old[i] != command {
+            let code = base + i as u8;
+            if command {
+                closing[closed] = code;
+                closed += 1;
+            } else {
+                opening[opened] = code;
+                opened += 1;
+            }
+        }
+    }
+    Counts {
+        opening: opened,
+        closing: closed,
+    }
+}
+
+// The codes of both phases, kind by kind.
+fn phases(
+    n: usize,
+    old: Commands,
+    new: Commands,
+    opening: &mut [u8; 60],
+    closing: &mut [u8; 60],
+) -> Counts
+    requires { ⌜ n ≤ 20 ⌝ }
+    ensures opening_phase { λ r. ⌜ Appended (openingCodes n old new) (now (opening .entry)) 0 (now (opening .exit)) (r .opening) ⌝ }
+    ensures closing_phase { λ r. ⌜ Appended (closingCodes n old new) (now (closing .entry)) 0 (now (closing .exit)) (r .closing) ⌝ }
+{
+    let none = Counts {
+        opening: 0,
+        closing: 0,
+    };
+    let generators = collect(
+        n,
+        &old.generators,
+        &new.generators,
+        0,
+        opening,
+        closing,
+        none,
+    );
+    let breakers = collect(
+        n,
+        &old.generator_breakers,
+        &new.generator_breakers,
+        32,
+        opening,
+        closing,
+        generators,
+    );
+    collect(
+        n,
+        &old.bus_breakers,
+        &new.bus_breakers,
+        64,
+        opening,
+        closing,
+        breakers,
+    )
+}
+
+// Stores the first `count` codes from `at` on, and answers the place behind them.
+fn copy(codes: &[u8; 60], count: usize, buffer: &mut [u8], at: usize) -> usize
+    requires { ⌜ (length (now codes) ≡ 60) × (count ≤ 60) × (at + count ≤ length (now buffer)) ⌝ }
+    ensures stored { λ r. ⌜ Appended (take count (now (codes .entry))) (now (buffer .entry)) at (now (buffer .exit)) r ⌝ }
+    ensures behind { λ r. ⌜ r ≡ at + count ⌝ }
+{
+    for i in 0..count {
+        buffer[at + i] = codes[i];
+    }
+    at + count
+}
+
+// Stores a command `times` times from `at` on, and answers the place behind them.
+fn fill(command: u8, times: usize, buffer: &mut [u8], at: usize) -> usize
+    requires { ⌜ at + times ≤ length (now buffer) ⌝ }
+    ensures stored { λ r. ⌜ Appended (replicate times command) (now (buffer .entry)) at (now (buffer .exit)) r ⌝ }
+    ensures behind { λ r. ⌜ r ≡ at + times ⌝ }
+{
+    for i in 0..times {
+        buffer[at + i] = command;
+    }
+    at + times
+}
+
+// "The order sheet has its sizes first (one byte each: first wave, second wave), then two parallel arrays: the part codes of both
+// waves, then the orders (0 off or open, 1 on or closed)."
+fn lay_out(opening: &[u8; 60], closing: &[u8; 60], counts: Counts, buffer: &mut [u8])
+    requires { ⌜ (length (now opening) ≡ 60) × (length (now closing) ≡ 60) × (counts .opening ≤ 60) × (counts .closing ≤ 60) × (2 + 2 * (counts .opening + counts .closing) ≤ length (now buffer)) ⌝ }
+    ensures { λ r. ⌜ now (buffer .exit) ≡ written (layout (take (counts .opening) (now (opening .entry))) (take (counts .closing) (now (closing .entry)))) (now (buffer .entry)) ⌝ }
+{
+    let opened = counts.opening;
+    let closed = counts.closing;
+    buffer[0] = opened as u8;
+    buffer[1] = closed as u8;
+    let closing_codes = copy(opening, opened, buffer, 2);
+    let commands = copy(closing, closed, buffer, closing_codes);
+    let closing_commands = fill(0, opened, buffer, commands);
+    fill(1, closed, buffer, closing_commands);
+}
+
+// Writes the sheet that leads from the old commands to the new, or refuses a buffer that is shorter. An inner call: n is at most 20,
+// which its callers have checked.
+pub fn write(n: u8, old: Commands, new: Commands, buffer: &mut [u8]) -> Outcome
+    requires { ⌜ n ≤ 20 ⌝ }
+    ensures answer { λ r. ⌜ r ≡ writeOutcome (sheet n (commandsOf old) (commandsOf new)) (now (buffer .entry)) ⌝ }
+    ensures bytes { λ r. ⌜ now (buffer .exit) ≡ writeBuffer (sheet n (commandsOf old) (commandsOf new)) (now (buffer .entry)) ⌝ }
+{
+    // A ring has at most 60 parts, and so has a phase.
+    let mut opening = [0u8; 60];
+    let mut closing = [0u8; 60];
+    let counts = phases(n as usize, old, new, &mut opening, &mut closing);
+    // A refused call leaves "the buffer untouched": the length is tested before the first byte is written.
+    if buffer.len() < 2 + 2 * (counts.opening + counts.closing) {
+        return Outcome::Refused(8);
+    }
+    lay_out(&opening, &closing, counts, buffer);
+    Outcome::Served
+}
