@@ -68,15 +68,15 @@ served-zero k e = go (dec-eq k 0)
     go (inl z) = z
     go (inr z) = contra (rw (ne-eqb k 0 z) at e) refl
 
-zero-served : (k : ℕ) → k ≡ 0 → servedOutcome (outcomeOf k) ≡ true
+pub zero-served : (k : ℕ) → k ≡ 0 → servedOutcome (outcomeOf k) ≡ true
 unfolding outcomeOf
 zero-served k z = rw z
 
 module _ (ring : Ring) (r : Report) (buffer : List ℕ) where
-  abbrev refusal : ℕ
+  abbrev pub refusal : ℕ
   refusal = stepRefusal ring r (length buffer)
 
-  step-outcome : stepReply ring r buffer .answer .outcome ≡ outcomeOf refusal
+  pub step-outcome : stepReply ring r buffer .answer .outcome ≡ outcomeOf refusal
   unfolding stepReply servedReply refusedReply
   step-outcome = go (dec-eq refusal 0)
     where
@@ -84,15 +84,15 @@ module _ (ring : Ring) (r : Report) (buffer : List ℕ) where
       go (inl e) = rw e
       go (inr e) = rw (ne-eqb refusal 0 e)
 
-  step-served : isServed (stepReply ring r buffer) ≡ true → stepReply ring r buffer ≡ servedReply ring (nextHealth ring r) buffer
+  pub step-served : isServed (stepReply ring r buffer) ≡ true → stepReply ring r buffer ≡ servedReply ring (nextHealth ring r) buffer
   unfolding stepReply
   step-served e = rw (served-zero refusal (rw step-outcome at e))
 
-  step-refused : isServed (stepReply ring r buffer) ≡ false → stepReply ring r buffer ≡ refusedReply refusal ring buffer
+  pub step-refused : isServed (stepReply ring r buffer) ≡ false → stepReply ring r buffer ≡ refusedReply refusal ring buffer
   unfolding stepReply
   step-refused e = rw (ne-eqb refusal 0 (λ z. contra (zero-served refusal z) (rw step-outcome at e)))
 
-start-served : (n : ℕ) (buffer : List ℕ) → isServed (startReply n buffer) ≡ true → startReply n buffer ≡ servedReply (blankRing n) allFit buffer
+pub start-served : (n : ℕ) (buffer : List ℕ) → isServed (startReply n buffer) ≡ true → startReply n buffer ≡ servedReply (blankRing n) allFit buffer
 unfolding startReply refusedReply
 start-served n buffer e = go (dec-eq (startRefusal n (length buffer)) 0)
   where
@@ -109,7 +109,7 @@ same-effect StuckOpen = refl
 same-effect StuckClosed = refl
 
 -- the ring and the plant, ready for the phases of a step
-step-ready : {n : ℕ} {W : World} → Steady n W → (r : Report) → Ready n (W .ring) (nextHealth (W .ring) r) (afterWord r (W .plant))
+pub step-ready : {n : ℕ} {W : World} → Steady n W → (r : Report) → Ready n (W .ring) (nextHealth (W .ring) r) (afterWord r (W .plant))
 unfolding reported afterWord
 step-ready s r = record { size = s .size; health = λ p i. rw (same-effect (r .word), s .health p i); orders = s .orders }
 
@@ -160,7 +160,7 @@ word-of-kind (BusBreaker k) StuckClosed e = refl
 -- ---- which refusal meets a step of the list
 
 -- a number: a refusal that meets the step, or 0 for one that none meets
-data Judged (n : ℕ) (P : PlantState) (r : Report) (room : ℕ) : ℕ → Type 0 where
+pub data Judged (n : ℕ) (P : PlantState) (r : Report) (room : ℕ) : ℕ → Type 0 where
   met : {k : ℕ} → Meets n P r room k → Judged n P r room k
   fine : InRing n (r .part) → wordRefusal (r .part) (r .word) ≡ 0 → length (sheet n (P .last) (commands n (afterWord r P .health))) ≤ room → Judged n P r room 0
 
@@ -200,7 +200,7 @@ meets-positive (no-word i e) = omega arith
 meets-positive (no-room i e l) = omega arith
 
 module _ {n : ℕ} {W : World} (big : smallest ≤ n) (small : n ≤ largest) (s : Steady n W) (r : Report) where
-  judged : (room : ℕ) → Judged n (W .plant) r room (stepRefusal (W .ring) r room)
+  pub judged : (room : ℕ) → Judged n (W .plant) r room (stepRefusal (W .ring) r room)
   unfolding stepRefusal firstMet reportConditions afterWord
   judged room =
       rw (steady-good s big small, word-refusal (r .part) (r .word) (cond (tooShort room (nextSheet (W .ring) (nextHealth (W .ring) r))) 8 0), sheet-is small (step-ready s r), s .size)
@@ -253,7 +253,7 @@ module _ {n : ℕ} {W : World} (s : Steady n W) (r : Report) (inside : InRing n 
       go (inl e) = absurd (omega (arith, ap number (same-eq p (r .part) e), inside .1))
       go (inr e) = rw e (s .above p i l .0)
 
-start-ready : (n : ℕ) → n ≤ largest → Ready n (blankRing n) allFit freshPlant
+pub start-ready : (n : ℕ) → n ≤ largest → Ready n (blankRing n) allFit freshPlant
 unfolding blankRing
 start-ready n small = record { size = refl; health = λ p i. refl; orders = λ p i. command-places allOff p (i .0, omega (arith, i .1)) }
 
@@ -262,13 +262,13 @@ same-phases : {o : Option Phases} {x y : Phases} → o ≡ some x → o ≡ some
 same-phases {o} {x} {y} p q = cc
 
 module _ (n : ℕ) (buffer : List ℕ) (big : smallest ≤ n) (small : n ≤ largest) where
-  start-steady : {ph : Phases} {Q : PlantState} → isServed (startReply n buffer) ≡ true → decode n (startReply n buffer .buffer) ≡ some ph → Performed ph freshPlant Q
+  pub start-steady : {ph : Phases} {Q : PlantState} → isServed (startReply n buffer) ≡ true → decode n (startReply n buffer .buffer) ≡ some ph → Performed ph freshPlant Q
       → Steady n (record { plant = Q; ring = startReply n buffer .answer .ring; shown = startReply n buffer .answer .choices })
   start-steady {ph} {Q} e d q = rw (start-served n buffer e)
       (transition-steady small (start-ready n small) (λ p i. fit-of-kind p) (λ p i l. refl) buffer
       (rw (same-phases (rw (start-served n buffer e) at d) (served-decodes small (start-ready n small) buffer)) at q))
 
-  step-steady : {W : World} {ph : Phases} {Q : PlantState} → Steady n W → (r : Report) (lending : List ℕ) → isServed (stepReply (W .ring) r lending) ≡ true
+  pub step-steady : {W : World} {ph : Phases} {Q : PlantState} → Steady n W → (r : Report) (lending : List ℕ) → isServed (stepReply (W .ring) r lending) ≡ true
       → decode n (stepReply (W .ring) r lending .buffer) ≡ some ph → Performed ph (afterWord r (W .plant)) Q
       → Steady n (record { plant = Q; ring = stepReply (W .ring) r lending .answer .ring; shown = stepReply (W .ring) r lending .answer .choices })
   step-steady {W} {ph} {Q} s r lending e d q =

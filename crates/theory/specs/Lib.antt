@@ -13,4 +13,5 @@ pub mod Demand3Holds
 pub mod Demand2
 pub mod Demand2Holds
 pub mod Wrong
+pub mod Records
 pub mod Settled
