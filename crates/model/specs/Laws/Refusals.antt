@@ -1,14 +1,16 @@
 -- Laws of outcomes and of the refusals.
-use mathlib.Core.Path.{_≡_, refl}
-use mathlib.Core.Bool.{Bool, true, false}
+use mathlib.Core.Path.{_≡_, refl, sym, _∙_, ap}
+use mathlib.Core.Bool.{Bool, true, false, cond}
 use mathlib.Core.Logic.{_⊎_, inl, inr, _≢_}
-use Prim.Native.Nat.{ℕ, _≤_}
-use lib.Dec.{ltb}
-use borrow.Author.Tests.{ltb-false, ne-eqb}
+use Prim.Native.Nat.{ℕ, _≤_, _<_}
+use lib.Dec.{ltb, eqb}
+use borrow.Author.Tests.{ltb-false, lt-ltb, le-ltb, ne-eqb}
+use Rattle.model.specs.declared.Outcome.{Outcome}
+use Rattle.model.specs.declared.Outcome.the-variants as outcome
 use Rattle.model.specs.Values.{outcomeNumber, outcomeOf}
 use Rattle.model.specs.Plant.{smallest, largest}
 use Rattle.model.specs.Refusals.{sizeOutside}
-use Rattle.model.specs.Laws.Tests.{or-none, dec-eq}
+use Rattle.model.specs.Laws.Tests.{or-none, or-right, dec, dec-eq}
 
 -- the outcome that has a number has that number
 pub outcome-number : (k : ℕ) → outcomeNumber (outcomeOf k) ≡ k
@@ -23,3 +25,31 @@ outcome-number k = go (dec-eq k 0)
 pub size-inside : (n : ℕ) → sizeOutside n ≡ false → n ≤ largest
 unfolding sizeOutside
 size-inside n e = ltb-false largest n (or-none (ltb n smallest) (ltb largest n) e .1)
+
+pub outside : (n : ℕ) → (n < 3) ⊎ (20 < n) → sizeOutside n ≡ true
+unfolding sizeOutside
+outside n (inl p) = rw (lt-ltb n 3)
+outside n (inr p) = or-right (ltb n 3) (ltb 20 n) (lt-ltb 20 n p)
+
+pub inside : (n : ℕ) → 3 ≤ n → n ≤ 20 → sizeOutside n ≡ false
+unfolding sizeOutside
+inside n p q = rw (le-ltb n 3, le-ltb 20 n)
+
+-- ---- outcomes
+
+-- o is the outcome of number k
+pub outcome-is : (k : ℕ) (o : Outcome) → o ≡ outcomeOf k → (o ≡ outcomeOf k) × (outcomeNumber o ≡ k)
+outcome-is k o e = (e, rw e (outcome-number k))
+
+-- the answer to a call whose checks have the outcome o, of number k
+module _ {A : Type 0} (served : A) (refused : ℕ → A) (k : ℕ) (o : Outcome) (is : o ≡ outcomeOf k) where
+  pub when-served : o ≡ outcome.Served → served ≡ cond (eqb k 0) served (refused k)
+  when-served e = let z : 0 ≡ k = ap outcomeNumber (sym e) ∙ outcome-is k o is .1 in rw (← z)
+
+  pub when-refused : (j : ℕ) → o ≡ outcome.Refused j → refused j ≡ cond (eqb k 0) served (refused k)
+  unfolding outcomeOf
+  when-refused j e = go (dec (eqb k 0))
+    where
+      go : (eqb k 0 ≡ true) ⊎ (eqb k 0 ≡ false) → refused j ≡ cond (eqb k 0) served (refused k)
+      go (inl q) = let z : outcome.Refused j ≡ outcome.Served = sym e ∙ is ∙ rw q in cc
+      go (inr q) = let z : j ≡ k = ap outcomeNumber (sym e) ∙ outcome-is k o is .1 in rw (q, z)

@@ -1,0 +1,103 @@
+-- Part codes and words: what each code and each byte names.
+use mathlib.Core.Path.{_≡_, refl, _∙_, ap}
+use mathlib.Core.Bool.{cond}
+use mathlib.Core.Logic.{_⊎_, inl, inr}
+use mathlib.Core.List.{[], _∷_}
+use mathlib.Core.Option.{Option, none, some}
+use Prim.Native.Nat.{ℕ, zero, suc, _+_, _-_, _≤_, _<_, min}
+use native.Mathlib.Omega.{arith}
+use lib.Dec.{eqb}
+use borrow.Author.Tests.{eqb-true, ne-eqb, lt-ltb, le-ltb}
+use Rattle.model.specs.declared.Part.{Part}
+use Rattle.model.specs.declared.Part.the-variants.{Generator, GeneratorBreaker, BusBreaker}
+use Rattle.model.specs.declared.Word.{Word}
+use Rattle.model.specs.declared.Word.the-variants.{Fit, StuckOff, StuckOpen, StuckClosed}
+use Rattle.model.specs.Lists.{first}
+use Rattle.model.specs.Values.{number, index, firstCode, partCode, wordNumber}
+use Rattle.model.specs.Plant.{largest, parts}
+use Rattle.model.specs.Reports.{partNamed, wordNamed}
+use Rattle.model.specs.Refusals.{notOfRing}
+use Rattle.model.specs.Laws.Tests.{dec-lt}
+use Rattle.model.specs.Laws.Lists.{first-at, first-none}
+use Rattle.model.specs.Laws.Parts.{InRing, parts-at, code-only}
+use Rattle.model.specs.Laws.Reports.{named-code}
+
+-- ---- parts
+
+-- the code of a part of the ring names it, however large the ring is said to be
+code-names : (n : ℕ) (p : Part) → InRing (min n largest) p → partNamed n (partCode p) ≡ some p
+unfolding partNamed
+code-names n p h =
+    let least : min n largest ≡ min (min n largest) largest = omega arith in
+    ap (λ k. first (λ q. eqb (partCode q) (partCode p)) (parts k)) least ∙ named-code (min n largest) p (omega arith) h
+
+-- a code that no part of the ring has names none
+names-none : (n c : ℕ) → ((p : Part) → InRing (min n largest) p → partCode p ≡ c → ⊥) → partNamed n c ≡ none
+unfolding partNamed
+names-none n c h =
+    first-none (λ q. eqb (partCode q) c) (parts (min n largest)) (λ q m. ne-eqb (partCode q) c (h q (parts-at (min n largest) q m)))
+
+-- the part, if a ring of n has it
+unfoldable pub ofRing : ℕ → Part → Option Part
+ofRing n p = cond (notOfRing n p) none (some p)
+
+-- the code of a part of the largest ring names it, if a ring of n has it
+code-of-ring : (n : ℕ) (p : Part) → InRing largest p → partNamed n (partCode p) ≡ ofRing n p
+unfolding ofRing notOfRing
+code-of-ring n p h = go (dec-lt n (number p))
+  where
+    go : (n < number p) ⊎ (number p ≤ n) → partNamed n (partCode p) ≡ ofRing n p
+    go (inl l) =
+        rw (lt-ltb n (number p), le-ltb (number p) 1 (h .0))
+        (names-none n (partCode p) (λ q i e. omega (arith, ap number (code-only largest q p (omega arith) (omega arith) h e))))
+    go (inr l) = rw (le-ltb n (number p), le-ltb (number p) 1 (h .0)) (code-names n p (omega arith))
+
+pub index-less : (k : ℕ) → index k ≡ k - 1
+index-less zero = refl
+index-less (suc i) = omega arith
+
+pub first-code-most : (p : Part) → firstCode p ≤ 64
+first-code-most (Generator k) = omega arith
+first-code-most (GeneratorBreaker k) = omega arith
+first-code-most (BusBreaker k) = omega arith
+
+-- a code of a range names the part of its kind and number, if the ring has it
+pub in-range : (n c : ℕ) (p : Part) → InRing largest p → firstCode p + number p ≡ c + 1 → partNamed n c ≡ ofRing n p
+unfolding partCode
+in-range n c p h e = let z : c ≡ partCode p = omega (arith, index-less (number p)) in rw z (code-of-ring n p h)
+
+-- a code of no range names none
+pub outside-ranges : (n c : ℕ) → 20 ≤ c → (32 ≤ c → 52 ≤ c) → (64 ≤ c → 84 ≤ c) → partNamed n c ≡ none
+unfolding partCode
+outside-ranges n c a b d = names-none n c go
+  where
+    go : (p : Part) → InRing (min n largest) p → partCode p ≡ c → ⊥
+    go (Generator k) h e = omega (arith, index-less k)
+    go (GeneratorBreaker k) h e = omega (arith, index-less k, b (omega (arith, index-less k)))
+    go (BusBreaker k) h e = omega (arith, index-less k, d (omega (arith, index-less k)))
+
+-- ---- words
+
+-- a word's number names it
+pub number-names : (w : Word) → wordNamed (wordNumber w) ≡ some w
+unfolding wordNamed first
+number-names Fit = refl
+number-names StuckOff = refl
+number-names StuckOpen = refl
+number-names StuckClosed = refl
+
+-- a byte names the word that has it for its number
+pub word-named : (v : ℕ) (w : Word) → wordNamed v ≡ some w → wordNumber w ≡ v
+unfolding wordNamed
+word-named v w e = eqb-true (wordNumber w) v (first-at (λ u. eqb (wordNumber u) v) (Fit ∷ StuckOff ∷ StuckOpen ∷ StuckClosed ∷ []) w e .1)
+
+-- a number above those of the words names none
+pub no-word : (v : ℕ) → 3 < v → wordNamed v ≡ none
+unfolding wordNamed
+no-word v h = first-none (λ u. eqb (wordNumber u) v) (Fit ∷ StuckOff ∷ StuckOpen ∷ StuckClosed ∷ []) (λ u m. ne-eqb (wordNumber u) v (other u))
+  where
+    other : (w : Word) → wordNumber w ≡ v → ⊥
+    other Fit e = omega arith
+    other StuckOff e = omega arith
+    other StuckOpen e = omega arith
+    other StuckClosed e = omega arith

@@ -1,0 +1,154 @@
+-- The fault file: its refusal by the tests of its head, in their order, then by its reports; and how much of it decides.
+use mathlib.Core.Path.{_≡_, refl, sym, _∙_}
+use mathlib.Core.Bool.{Bool, true, false, not, cond}
+use mathlib.Core.Logic.{_⊎_, inl, inr, _≢_}
+use mathlib.Core.List.{List, [], _∷_}
+use Prim.Native.Nat.{ℕ, _+_, _-_, _*_, _≤_, _<_}
+use native.Mathlib.Nat.{add-sub-cancel-left}
+use native.Mathlib.Omega.{arith}
+use lib.Dec.{eqb, ltb}
+use lib.ListN.{length, take, drop, length-drop}
+use lib.Seq.{take-all, getD-take, length-take-le}
+use borrow.Author.Tests.{eqb-true, eq-eqb, ne-eqb, lt-ltb, le-ltb}
+use Rattle.model.specs.declared.Outcome.{Outcome}
+use Rattle.model.specs.declared.Outcome.the-variants as outcome
+use Rattle.model.specs.declared.FileAnswer.{FileAnswer}
+use Rattle.model.specs.declared.FileAnswer.the-variants as file
+use Rattle.model.specs.Values.{outcomeOf, fileValues}
+use Rattle.model.specs.Reports.{fileSize, fileCount, fileCodes, fileWords}
+use Rattle.model.specs.Refusals.{firstMet, orElse, sizeOutside, reportsRefusal, fileRefusal}
+use Rattle.model.specs.Answers.{fileAnswer}
+use Rattle.model.specs.Text.{servedText, refusedText, printedRun}
+use Rattle.model.specs.Laws.Tests.{dec, dec-lt, or-right, by-cond}
+use Rattle.model.specs.Laws.Refusals.{inside, outside, when-served, when-refused}
+
+-- r is the file's answer, and has the number of its refusal
+abbrev pub Answered : List ℕ → FileAnswer → Type 0
+Answered f r = (r ≡ fileAnswer f) × (fileValues r .0 ≡ fileRefusal f)
+
+answered : (f : List ℕ) (r : FileAnswer) → r ≡ fileAnswer f → Answered f r
+unfolding fileAnswer
+answered f r e =
+    (e, rw e (by-cond (λ a. fileValues a .0 ≡ fileRefusal f) (eqb (fileRefusal f) 0) (λ t. sym (eqb-true (fileRefusal f) 0 t)) (λ t. refl)))
+
+-- ---- the head
+
+-- refusals 1, 2, 3, 4 of a file of length l, by its n and m
+headRefusal : ℕ → ℕ → ℕ → ℕ
+headRefusal l n m = firstMet ((1, ltb l 3) ∷ (2, sizeOutside n) ∷ (3, ltb 4096 m) ∷ (4, not (eqb l (3 + 2 * m))) ∷ [])
+
+head-short : (l n m : ℕ) → l < 3 → headRefusal l n m ≡ 1
+unfolding headRefusal firstMet
+head-short l n m h = rw (lt-ltb l 3)
+
+head-outside : (l n m : ℕ) → 3 ≤ l → sizeOutside n ≡ true → headRefusal l n m ≡ 2
+unfolding headRefusal firstMet
+head-outside l n m h p = rw (le-ltb l 3, p)
+
+head-inside : (l n m : ℕ) → 3 ≤ l → sizeOutside n ≡ false → headRefusal l n m ≡ cond (ltb 4096 m) 3 (cond (not (eqb l (3 + 2 * m))) 4 0)
+unfolding headRefusal firstMet
+head-inside l n m h p = rw (le-ltb l 3, p)
+
+head-then-reports : (f : List ℕ) → fileRefusal f ≡ orElse (headRefusal (length f) (fileSize f) (fileCount f)) (reportsRefusal (fileSize f) (fileCodes f) (fileWords f))
+unfolding headRefusal fileRefusal
+head-then-reports f = refl
+
+-- ---- the answer, by the tests that the file passed and failed
+
+-- 3 bytes, and a number of buses that is served
+abbrev pub Sized : List ℕ → Type 0
+Sized f = (3 ≤ length f) × (3 ≤ fileSize f) × (fileSize f ≤ 20)
+
+module _ (f : List ℕ) where
+  -- a refusal of the head is the file's
+  head-refused : (k : ℕ) → headRefusal (length f) (fileSize f) (fileCount f) ≡ k → eqb k 0 ≡ false → Answered f (file.Refused k)
+  unfolding fileAnswer
+  head-refused k e z = let q : fileRefusal f ≡ k = head-then-reports f ∙ rw (e, z) in answered f (file.Refused k) (rw (q, z))
+
+  pub file-short : length f < 3 → Answered f (file.Refused 1)
+  file-short h = head-refused 1 (head-short _ _ _ h) refl
+
+  pub file-size : 3 ≤ length f → (fileSize f < 3) ⊎ (20 < fileSize f) → Answered f (file.Refused 2)
+  file-size l h = head-refused 2 (head-outside _ _ _ l (outside _ h)) refl
+
+  pub file-count : Sized f → 4096 < fileCount f → Answered f (file.Refused 3)
+  file-count (l, a, b) h = head-refused 3 (head-inside _ _ _ l (inside _ a b) ∙ rw (lt-ltb 4096 (fileCount f))) refl
+
+  module _ (sized : Sized f) (few : fileCount f ≤ 4096) where
+    pub file-length : length f ≢ 3 + 2 * fileCount f → Answered f (file.Refused 4)
+    file-length h =
+        head-refused 4
+        (head-inside _ _ _ (sized .0) (inside _ (sized .1) (sized .2)) ∙ rw (le-ltb 4096 (fileCount f), ne-eqb (length f) (3 + 2 * fileCount f)))
+        refl
+
+    -- the reports stand in two stretches of a whole file
+    module _ (whole : length f ≡ 3 + 2 * fileCount f) (o : Outcome) (is : o ≡ outcomeOf (reportsRefusal (fileSize f) (take (3 + fileCount f - 3) (drop 3 f)) (take (length f - (3 + fileCount f)) (drop (3 + fileCount f) f)))) where
+      by-reports : o ≡ outcomeOf (fileRefusal f)
+      by-reports =
+          is
+          ∙ rw
+          (add-sub-cancel-left 3 (fileCount f), take-all (length f - (3 + fileCount f)) (drop (3 + fileCount f) f) (simp length-drop (omega arith)), head-then-reports f, head-inside (length f) (fileSize f) (fileCount f) (sized .0) (inside (fileSize f) (sized .1) (sized .2)), le-ltb 4096 (fileCount f), eq-eqb (length f) (3 + 2 * fileCount f))
+
+      pub file-served : o ≡ outcome.Served → Answered f (file.Served (fileSize f) (fileCount f))
+      unfolding fileAnswer
+      file-served e = answered f _ (when-served _ file.Refused _ o by-reports e)
+
+      pub file-refused : (k : ℕ) → o ≡ outcome.Refused k → Answered f (file.Refused k)
+      unfolding fileAnswer
+      file-refused k e = answered f _ (when-refused _ file.Refused _ o by-reports k e)
+
+-- ---- how much of a file decides
+
+-- one byte more than the largest file that is served
+abbrev pub readLimit : ℕ
+readLimit = 8196
+
+-- the refusal of a file that is longer than any that is served
+longRefusal : ℕ → ℕ → ℕ
+longRefusal n m = cond (sizeOutside n) 2 (cond (ltb 4096 m) 3 4)
+
+long-head : (l n m : ℕ) → 8195 < l → headRefusal l n m ≡ longRefusal n m
+unfolding longRefusal
+long-head l n m h = go (dec (sizeOutside n)) (dec-lt 4096 m)
+  where
+    go : (sizeOutside n ≡ true) ⊎ (sizeOutside n ≡ false) → (4096 < m) ⊎ (m ≤ 4096) → headRefusal l n m ≡ longRefusal n m
+    go (inl p) q = rw p (head-outside l n m (omega arith) p)
+    go (inr p) (inl q) = rw (p, lt-ltb 4096 m) (head-inside l n m (omega arith) p ∙ rw (lt-ltb 4096 m))
+    go (inr p) (inr q) = rw (p, le-ltb 4096 m) (head-inside l n m (omega arith) p ∙ rw (le-ltb 4096 m, ne-eqb l (3 + 2 * m) (λ e. omega arith)))
+
+long-refused : (n m : ℕ) → eqb (longRefusal n m) 0 ≡ false
+unfolding longRefusal
+long-refused n m = go (sizeOutside n) (ltb 4096 m)
+  where
+    go : (a b : Bool) → eqb (cond a 2 (cond b 3 4)) 0 ≡ false
+    go true b = refl
+    go false true = refl
+    go false false = refl
+
+-- what a call makes of a file, served or refused
+module _ {A : Type 0} (served : List ℕ → A) (refused : ℕ → A) where
+  made : List ℕ → A
+  made f = cond (eqb (fileRefusal f) 0) (served f) (refused (fileRefusal f))
+
+  made-long : (f : List ℕ) → 8195 < length f → made f ≡ refused (longRefusal (fileSize f) (fileCount f))
+  unfolding made
+  made-long f h = let r = head-refused f _ (long-head _ _ _ h) (long-refused _ _) .1 in rw (← r, long-refused (fileSize f) (fileCount f))
+
+  made-read : (f : List ℕ) → made (take readLimit f) ≡ made f
+  made-read f = go (dec-lt readLimit (length f))
+    where
+      go : (readLimit < length f) ⊎ (length f ≤ readLimit) → made (take readLimit f) ≡ made f
+      go (inl h) =
+          made-long (take readLimit f) (rw (length-take-le readLimit f (omega arith)) (omega arith))
+          ∙ rw (getD-take readLimit f 0 0 (omega arith), getD-take readLimit f 1 0 (omega arith), getD-take readLimit f 2 0 (omega arith)) (sym (made-long f (omega arith)))
+      go (inr h) = rw (take-all readLimit f)
+
+-- the first 8,196 bytes of a file, however long, have its answer
+pub answer-read : (f : List ℕ) → fileAnswer (take readLimit f) ≡ fileAnswer f
+unfolding fileAnswer made
+answer-read = made-read (λ f. file.Served (fileSize f) (fileCount f)) file.Refused
+
+-- and its printed run
+pub run-read : (f : List ℕ) → printedRun (take readLimit f) ≡ printedRun f
+unfolding printedRun made
+run-read = made-read servedText refusedText
