@@ -1,6 +1,6 @@
 -- Document 01, "Fault file and reports" and "What is sent back unserved": the whole answer of each call, served or refused.
-use mathlib.Core.Bool.{Bool, true, false, _&&_, cond}
-use mathlib.Core.List.{List, [], _∷_}
+use mathlib.Core.Bool.{_&&_, cond}
+use mathlib.Core.List.{List}
 use mathlib.Core.Option.{Option, none, some}
 use Prim.Native.Nat.{ℕ}
 use lib.Dec.{ltb, eqb}
@@ -14,7 +14,6 @@ use Rattle.model.specs.declared.Ring.{Ring}
 use Rattle.model.specs.declared.Choice.the-variants as choice
 use Rattle.model.specs.declared.BusChoice.{BusChoice}
 use Rattle.model.specs.declared.Feed.the-variants as feed
-use Rattle.model.specs.declared.BusFeed.{BusFeed}
 use Rattle.model.specs.declared.RingAnswer.{RingAnswer}
 use Rattle.model.specs.declared.FeedsAnswer.{FeedsAnswer}
 use Rattle.model.specs.declared.PartAnswer.{PartAnswer}
@@ -29,7 +28,7 @@ use Rattle.model.specs.Values.{outcomeOf}
 use Rattle.model.specs.Plant.{PartHealth, busFeed}
 use Rattle.model.specs.Choosing.{choices}
 use Rattle.model.specs.Sheet.{written}
-use Rattle.model.specs.Reports.{fileSize, fileCount, partNamed, wordNamed, allFit, places, healthOf, commandsOf, blankRing, withPlan}
+use Rattle.model.specs.Reports.{fileSize, fileCount, allFit, places, healthOf, commandsOf, blankRing, withPlan}
 use Rattle.model.specs.Refusals.{startRefusal, stepRefusal, feedsRefusal, fileRefusal, reportAnswer, nextSheet, nextHealth}
 
 -- the part that a code names in a ring of n, or refusal 5

@@ -1,7 +1,7 @@
 -- Document 01, "Ways and their ranks". Buses, generators and breakers are indices from 0. A way is a path here.
-use mathlib.Core.Bool.{Bool, true, false, not, cond}
+use mathlib.Core.Bool.{Bool, true, not, cond}
 use mathlib.Core.List.{List, [], _∷_, _++_, map, flatMap, reverse}
-use Prim.Native.Nat.{ℕ, zero, suc, _*_}
+use Prim.Native.Nat.{ℕ, zero, suc}
 use lib.Dec.{leb, eqb}
 use Rattle.model.specs.declared.Part.{Part}
 use Rattle.model.specs.Lists.{below, keep}

@@ -1,18 +1,17 @@
 -- Document 01, "What is sent back unserved": for each kind of call its conditions, in the order in which they are checked.
-use mathlib.Core.Bool.{Bool, true, false, not, _&&_, _||_, cond, Bool·beq}
+use mathlib.Core.Bool.{Bool, false, not, _&&_, _||_, cond, Bool·beq}
 use mathlib.Core.List.{List, [], _∷_, _++_}
 use mathlib.Core.Option.{Option, none, some}
 use Prim.Native.Nat.{ℕ, _+_, _*_}
-use lib.Dec.{leb, ltb, eqb}
+use lib.Dec.{ltb, eqb}
 use lib.ListN.{length}
 use Rattle.model.specs.declared.Part.{Part}
 use Rattle.model.specs.declared.Part.the-variants.{Generator, GeneratorBreaker, BusBreaker}
 use Rattle.model.specs.declared.Word.{Word}
 use Rattle.model.specs.declared.Report.{Report}
-use Rattle.model.specs.declared.Health.{Health}
 use Rattle.model.specs.declared.Ring.{Ring}
 use Rattle.model.specs.declared.ReportAnswer.{ReportAnswer}
-use Rattle.model.specs.declared.ReportAnswer.the-variants.{Read, Refused, Missing}
+use Rattle.model.specs.declared.ReportAnswer.the-variants.{Read, Refused}
 use Rattle.model.specs.Lists.{anyOf}
 use Rattle.model.specs.Values.{number, wordNumber, reportValues}
 use Rattle.model.specs.Plant.{PartHealth, PartCommands, smallest, largest, parts, fit, healthOfKind}

@@ -1,7 +1,7 @@
 -- Document 01, "Fault file and reports": the file's bytes, codes and words, and the ring state (document 01: ring record).
-use mathlib.Core.Bool.{Bool, true, false, cond}
+use mathlib.Core.Bool.{false, cond}
 use mathlib.Core.List.{List, [], _∷_, map}
-use mathlib.Core.Option.{Option, none, some}
+use mathlib.Core.Option.{Option}
 use Prim.Native.Nat.{ℕ, zero, suc, _+_, _*_, min}
 use lib.Dec.{eqb}
 use lib.ListN.{getD, take, drop}

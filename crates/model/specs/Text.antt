@@ -1,11 +1,11 @@
 -- Document 01, "The printed run": the program's text as a list of bytes. A line feed ends every line.
-use mathlib.Core.Bool.{Bool, true, false, cond}
+use mathlib.Core.Bool.{cond}
 use mathlib.Core.List.{List, [], _∷_, _++_, map}
 use Prim.Native.Nat.{ℕ, zero, suc, _+_, _/_, _%_}
 use Prim.Native.String.{String, [] as end, _∷_ as _then_}
 use Prim.Native.Char.{code}
 use lib.Dec.{ltb, eqb}
-use lib.ListN.{getD, take}
+use lib.ListN.{getD}
 use Rattle.model.specs.declared.Part.{Part}
 use Rattle.model.specs.declared.Part.the-variants.{Generator, GeneratorBreaker, BusBreaker}
 use Rattle.model.specs.declared.Report.{Report}
@@ -17,7 +17,7 @@ use Rattle.model.specs.declared.ReportAnswer.{ReportAnswer}
 use Rattle.model.specs.declared.ReportAnswer.the-variants.{Read, Refused, Missing}
 use Rattle.model.specs.Lists.{below}
 use Rattle.model.specs.Values.{number, choiceSource, choiceLetter}
-use Rattle.model.specs.Plant.{PartHealth, PartCommands}
+use Rattle.model.specs.Plant.{PartHealth}
 use Rattle.model.specs.Choosing.{choices, commands}
 use Rattle.model.specs.Sheet.{opening, closing}
 use Rattle.model.specs.Reports.{fileSize, fileCount, fileCodes, fileWords, allFit, commandsOf, blankRing, withPlan}

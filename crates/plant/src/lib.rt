@@ -153,8 +153,8 @@ fn breaker_health(health: u8) -> bool
     health == FIT || (health == STUCK_OPEN || health == STUCK_CLOSED)
 }
 
-// 9 "only for a part up to n whose health is not one of its kind"
-fn health_outside(n: usize, health: Health) -> bool
+// 9 "only for a part up to n whose health is not one of its kind". An inner call, for callers that know n.
+pub fn health_outside(n: usize, health: Health) -> bool
     requires { ⌜ n ≤ 20 ⌝ }
     ensures { λ r. ⌜ r ≡ healthOutside (healthOf health) (parts n) ⌝ }
 {
@@ -173,7 +173,7 @@ fn health_outside(n: usize, health: Health) -> bool
 }
 
 // 2: "n below 3 or above 20"
-fn size_outside(n: u8) -> bool
+pub fn size_outside(n: u8) -> bool
     ensures { λ r. ⌜ r ≡ sizeOutside n ⌝ }
 {
     n < 3 || 20 < n

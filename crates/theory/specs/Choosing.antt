@@ -1,7 +1,7 @@
 -- What holds of the chosen paths at every moment of the plan: each is usable, and no two chosen generators are connected.
-use mathlib.Core.Path.{_≡_, refl, sym, _∙_, ap}
-use mathlib.Core.Bool.{Bool, true, false, not, _&&_, _||_}
-use mathlib.Core.Logic.{_≢_, _⊎_, inl, inr, _↔_}
+use mathlib.Core.Path.{_≡_, refl}
+use mathlib.Core.Bool.{Bool, true, false, not, _||_}
+use mathlib.Core.Logic.{_⊎_, inl, inr}
 use mathlib.Core.List.{List, [], _∷_, List·Memᴰ·head, List·Memᴰ·tail, List·Memᴰ·not-nil, List·Memᴰ·cases-cons, Memᴰ·cast}
 use mathlib.Core.Option.{Option, none, some}
 use Prim.Native.Nat.{ℕ, zero, suc, _≤_, _<_}
@@ -9,14 +9,14 @@ use native.Mathlib.Omega.{arith}
 use lib.Dec.{eqb}
 use borrow.Author.Tests.{eqb-true, eq-eqb, not-true}
 use Rattle.model.specs.declared.Part.{Part}
-use Rattle.model.specs.Lists.{first, anyOf, allOf}
+use Rattle.model.specs.Lists.{anyOf, allOf}
 use Rattle.model.specs.Values.{samePart}
 use Rattle.model.specs.Plant.{PartHealth, generator, generatorBreaker, busBreaker, fit, stuckOpen, stuckClosed, Leads, connected}
 use Rattle.model.specs.Priority.{Path, pathBusBreakers, pathBreakers, pathParts, paths}
 use Rattle.model.specs.Choosing.{onPaths, usable, countedClosed, isolated, permitted, choose, addPath, chosen}
 use Rattle.model.specs.Laws.Tests.{contra, not-of, and-left, and-right, and-intro, or-cases, or-left, or-right, dec}
 use Rattle.model.specs.Laws.Lists.{_∈_, all-cons, any-at, any-in, all-at, all-of, map-in, first-at}
-use Rattle.model.specs.Laws.Parts.{InRing, same-eq, same-refl}
+use Rattle.model.specs.Laws.Parts.{same-eq, same-refl}
 use Rattle.theory.specs.Connected.{connected-leads, leads-connected}
 use Rattle.theory.specs.Paths.{Ends, Uses, OnPath, at-generator, at-generator-breaker, at-bus-breaker, on-path, path-at, path-in, bus-breaker-on, breakers-on, line-on, tried-at}
 

@@ -2,23 +2,23 @@
 use mathlib.Core.Path.{_≡_, refl, sym, _∙_, ap}
 use mathlib.Core.Bool.{Bool, true, false, _||_}
 use mathlib.Core.Logic.{_≢_, _⊎_, inl, inr, _↔_}
-use mathlib.Core.List.{List, [], _∷_, List·Memᴰ·head, List·Memᴰ·cases-cons}
+use mathlib.Core.List.{List, _∷_, List·Memᴰ·cases-cons}
 use mathlib.Core.Option.{Option, none, some}
-use Prim.Native.Nat.{ℕ, zero, suc, _+_, _≤_, _<_}
+use Prim.Native.Nat.{ℕ, zero, suc, _≤_, _<_}
 use native.Mathlib.Omega.{arith}
 use native.Mathlib.Nat.{not-suc-le-zero}
 use lib.Dec.{ltb}
 use borrow.Author.Tests.{ltb-true, lt-ltb}
-use Rattle.model.specs.Lists.{first, anyOf, allOf}
-use Rattle.model.specs.Plant.{PartHealth, generator, generatorBreaker, busBreaker, fit, stuckOpen, next, up, arc, Leads, connected}
-use Rattle.model.specs.Priority.{Path, pathBusBreakers, pathBreakers, pathParts, paths}
-use Rattle.model.specs.Choosing.{onPaths, usable, countedClosed, isolated, permitted, choose, chosen, plan}
+use Rattle.model.specs.Lists.{anyOf}
+use Rattle.model.specs.Plant.{PartHealth, busBreaker, stuckOpen, next, up, Leads, connected}
+use Rattle.model.specs.Priority.{Path, pathBusBreakers, paths}
+use Rattle.model.specs.Choosing.{countedClosed, permitted, choose, chosen, plan}
 use Rattle.model.specs.Laws.Tests.{contra, or-cases, or-left, or-right, dec, dec-eq, dec-lt}
 use Rattle.model.specs.Laws.Lists.{_∈_, all-cons, any-at, any-in, first-at, first-in, none-some}
 use Rattle.theory.specs.Geometry.{up-refl, up-next, up-next-right, up-through, up-nested, up-inj, up-inj-left, next-lt}
 use Rattle.theory.specs.Connected.{Arc, Near, connected-leads, leads-connected, leads-mono, leads-trans, leads-sym, arc-leads, leads-arcs, leads-split}
 use Rattle.theory.specs.Paths.{Ends, Uses, lower, upper, pathTo, path-at, tried}
-use Rattle.theory.specs.Choosing.{Usable, Isolated, Safe, counted-cons, counted-usable, permitted-at, permitted-of, chosen-ends, safe-chosen}
+use Rattle.theory.specs.Choosing.{Usable, Safe, counted-cons, counted-usable, permitted-at, permitted-of, chosen-ends, safe-chosen}
 
 -- ---- the number of least distance that passes a test
 

@@ -1,13 +1,13 @@
 -- Connected buses: closed bus breakers lead from one bus to another exactly when one of the two arcs between them is closed.
-use mathlib.Core.Path.{_≡_, refl, sym, _∙_, ap, ap₂}
-use mathlib.Core.Bool.{Bool, true, false, _&&_, _||_}
+use mathlib.Core.Path.{_≡_, refl, sym, _∙_, ap₂}
+use mathlib.Core.Bool.{Bool, true, _||_}
 use mathlib.Core.Logic.{_≢_, _⊎_, inl, inr, _↔_}
-use Prim.Native.Nat.{ℕ, zero, suc, _+_, _≤_, _<_}
+use Prim.Native.Nat.{ℕ, zero, suc, _<_}
 use native.Mathlib.Omega.{arith}
 use Rattle.model.specs.Lists.{allOf}
 use Rattle.model.specs.Plant.{next, up, arc, Leads, stay, rise, fall, connected}
 use Rattle.model.specs.Laws.Tests.{or-cases, or-left, or-right, dec-eq}
-use Rattle.model.specs.Laws.Lists.{_∈_, all-at, all-of, all-ext}
+use Rattle.model.specs.Laws.Lists.{all-at, all-of, all-ext}
 use Rattle.theory.specs.Geometry.{up-refl, up-zero, up-next, up-next-right, up-inj, next-lt, arc-at, arc-in}
 
 -- every breaker of the rising arc from a to b is in C

@@ -2,7 +2,7 @@
 -- first way of the published Triple Modular Generator priorities that the known faults and the earlier buses' ways permit, and
 -- the orders in both waves are those that bring this about, none missing or extra."
 use mathlib.Core.Path.{_≡_}
-use mathlib.Core.Bool.{Bool, true, false}
+use mathlib.Core.Bool.{true, false}
 use mathlib.Core.Logic.{_↔_}
 use mathlib.Core.List.{List, [], _∷_, _++_}
 use mathlib.Core.Option.{Option, none, some}
@@ -17,7 +17,7 @@ use Rattle.model.specs.Choosing.{permitted, addPath, choiceOf}
 use Rattle.model.specs.Answers.{Reply}
 use Rattle.model.specs.Laws.Lists.{_∈_, RisingBy}
 use Rattle.model.specs.Laws.Parts.{InRing}
-use Rattle.theory.specs.Demand3.{Controller, PlantState, freshPlant, afterWords, Operation, Phases, decode, Calls, _then_, Call, Begins, Ended, World, Performed, replyTo, words, isServed}
+use Rattle.theory.specs.Demand3.{Controller, PlantState, freshPlant, afterWords, Operation, Phases, decode, Calls, Call, Ended, World, Performed, replyTo, words, isServed}
 
 -- a list without repeats
 pub data Distinct {A : Type 0} : List A → Type 0 where

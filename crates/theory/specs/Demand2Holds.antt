@@ -2,30 +2,29 @@
 use mathlib.Core.Path.{_≡_, refl, sym, _∙_, ap}
 use mathlib.Core.Bool.{Bool, true, false, not, _&&_, cond}
 use mathlib.Core.Logic.{_≢_, _⊎_, inl, inr, _↔_}
-use mathlib.Core.List.{List, [], _∷_, _++_, map, flatMap, append-assoc, List·Memᴰ·head, List·Memᴰ·tail, List·Memᴰ·not-nil, List·Memᴰ·cases-cons, List·Memᴰ·append-cases, List·Memᴰ·eq-of-singleton, Memᴰ·append-left, Memᴰ·append-right, Memᴰ·cast}
-use mathlib.Core.Option.{Option, none, some}
+use mathlib.Core.List.{List, [], _∷_, _++_, map, flatMap, List·Memᴰ·head, List·Memᴰ·tail, List·Memᴰ·not-nil, List·Memᴰ·cases-cons, List·Memᴰ·append-cases, List·Memᴰ·eq-of-singleton, Memᴰ·append-left, Memᴰ·append-right, Memᴰ·cast}
+use mathlib.Core.Option.{Option, some}
 use Prim.Native.Nat.{ℕ, zero, suc, _+_, _*_, _≤_, _<_}
 use native.Mathlib.Omega.{arith}
 use lib.Dec.{leb, eqb}
-use lib.ListN.{length, getD, length-append}
-use borrow.Author.Tests.{leb-true, eqb-true, eq-eqb, ne-eqb, not-true, lt-leb, le-leb}
+use lib.ListN.{length, length-append}
+use borrow.Author.Tests.{eq-eqb, ne-eqb, not-true}
 use Rattle.model.specs.declared.Part.{Part}
-use Rattle.model.specs.declared.Report.{Report}
 use Rattle.model.specs.declared.Choice.the-variants.{Dark}
 use Rattle.model.specs.Lists.{below, keep, first}
-use Rattle.model.specs.Values.{firstCode, index, number, partCode}
-use Rattle.model.specs.Plant.{PartHealth, PartCommands, smallest, largest, generator, generatorBreaker, busBreaker, parts}
-use Rattle.model.specs.Priority.{Path, others, sources, highRises, pathsFrom, paths, pathParts}
-use Rattle.model.specs.Choosing.{permitted, choose, addPath, chosen, plan, commands, choices, choiceOf}
+use Rattle.model.specs.Values.{partCode}
+use Rattle.model.specs.Plant.{PartHealth, PartCommands, largest}
+use Rattle.model.specs.Priority.{Path, others, sources, highRises, pathsFrom, paths}
+use Rattle.model.specs.Choosing.{permitted, choose, chosen, plan, commands}
 use Rattle.model.specs.Sheet.{opening, closing}
 use Rattle.model.specs.Answers.{Reply}
-use Rattle.model.specs.Laws.Tests.{contra, dec, dec-eq, not-of}
-use Rattle.model.specs.Laws.Lists.{_∈_, all-cons, below-in, below-lt, below-length, keep-at, map-in, flat-at, Rising, RisingBy, empty, more, rising-below, rising-keep, rising-map}
+use Rattle.model.specs.Laws.Tests.{contra, dec, dec-eq}
+use Rattle.model.specs.Laws.Lists.{_∈_, all-cons, below-in, below-lt, below-length, keep-at, map-in, flat-at, RisingBy, empty, more, rising-below, rising-keep, rising-map}
 use Rattle.model.specs.Laws.Parts.{InRing, parts-rise}
 use Rattle.theory.specs.Paths.{sources-in, sources-at, others-at, from-at}
 use Rattle.theory.specs.Choosing.{on-in}
 use Rattle.theory.specs.Feeds.{commanded-at}
-use Rattle.theory.specs.Demand3.{Controller, PlantState, freshPlant, afterWord, afterWords, Operation, operation, performAll, Phases, decode, Calls, nothing, _then_, Call, Begins, whole, Ended, World, Performed, performed, replyTo, words, isServed, AsChosen}
+use Rattle.theory.specs.Demand3.{PlantState, Operation, operation, nothing, _then_, whole, Performed, performed, AsChosen}
 use Rattle.theory.specs.Operations.{operation-at, opening-at, opening-in, closing-at, closing-in}
 use Rattle.theory.specs.Steady.{both-done}
 use Rattle.theory.specs.Demand3Holds.{controller, choices-at, demand3}

@@ -1,14 +1,14 @@
 -- Demand 3 holds of the controller whose answers are the definitions that the contracts of start and step cite.
 use mathlib.Core.Path.{_≡_, refl, sym, _∙_, ap}
-use mathlib.Core.Bool.{Bool, true, false, not, _&&_, _||_, cond, Bool·beq}
-use mathlib.Core.Logic.{_≢_, _⊎_, inl, inr, _↔_}
-use mathlib.Core.List.{List, [], _∷_, _++_, append-nil, List·Permᴰ, Permᴰ·refl}
+use mathlib.Core.Bool.{Bool, true, false, cond, Bool·beq}
+use mathlib.Core.Logic.{_≢_, _⊎_, inl, inr}
+use mathlib.Core.List.{List, [], _∷_, append-nil, Permᴰ·refl}
 use mathlib.Core.Option.{Option, none, some}
 use Prim.Native.Nat.{ℕ, zero, suc, _≤_, _<_}
 use native.Mathlib.Omega.{arith}
 use lib.Dec.{ltb, eqb}
 use lib.ListN.{length, getD}
-use borrow.Author.Tests.{ltb-true, ltb-false, lt-ltb, le-ltb, eqb-true, eqb-false, eq-eqb, ne-eqb}
+use borrow.Author.Tests.{ltb-true, ltb-false, lt-ltb, eq-eqb, ne-eqb}
 use Rattle.model.specs.declared.Part.{Part}
 use Rattle.model.specs.declared.Part.the-variants.{Generator, GeneratorBreaker, BusBreaker}
 use Rattle.model.specs.declared.Word.{Word}
@@ -18,29 +18,26 @@ use Rattle.model.specs.declared.Ring.{Ring}
 use Rattle.model.specs.declared.Choice.{Choice}
 use Rattle.model.specs.declared.Choice.the-variants as choice
 use Rattle.model.specs.declared.BusChoice.{BusChoice}
-use Rattle.model.specs.declared.Outcome.{Outcome}
 use Rattle.model.specs.declared.Outcome.the-variants as outcome
 use Rattle.model.specs.declared.Feed.the-variants as feed
-use Rattle.model.specs.Lists.{below, anyOf}
+use Rattle.model.specs.Lists.{anyOf}
 use Rattle.model.specs.Values.{number, samePart, wordNumber, outcomeOf, choiceSource}
 use Rattle.model.specs.Plant.{PartHealth, PartCommands, smallest, largest, allOff, generatorBreaker, busBreaker, stuckClosed, healthOfKind, busFeed}
 use Rattle.model.specs.Priority.{Path, highRises}
 use Rattle.model.specs.Choosing.{commands, choices, choiceOf, plan}
 use Rattle.model.specs.Sheet.{opening, closing, sheet}
-use Rattle.model.specs.Reports.{reported, allFit, places, healthOf, commandsOf, healthPlaces, commandPlaces, blankRing}
-use Rattle.model.specs.Refusals.{firstMet, notOfRing, wordOfOtherKind, generatorFitAgain, tooShort, badRecord, nextSheet, nextHealth, reportConditions, startRefusal, stepRefusal}
-use Rattle.model.specs.Answers.{Reply, refusedReply, servedReply, startReply, stepReply}
-use Rattle.model.specs.Laws.Tests.{contra, dec, dec-eq, dec-lt, or-cases, or-none, or-left, or-right, and-left, and-right, by-cond, not-of}
-use Rattle.model.specs.Laws.Lists.{_∈_, none-some}
-use Rattle.model.specs.Laws.Parts.{InRing, at-index, places-at, same-eq, command-places}
-use Rattle.theory.specs.Paths.{pathTo}
+use Rattle.model.specs.Reports.{reported, allFit, places, healthOf, blankRing}
+use Rattle.model.specs.Refusals.{firstMet, notOfRing, wordOfOtherKind, generatorFitAgain, tooShort, nextSheet, nextHealth, reportConditions, startRefusal, stepRefusal}
+use Rattle.model.specs.Answers.{refusedReply, servedReply, startReply, stepReply}
+use Rattle.model.specs.Laws.Tests.{contra, dec, dec-eq, or-cases, or-none, by-cond}
+use Rattle.model.specs.Laws.Parts.{InRing, places-at, same-eq, command-places}
 use Rattle.theory.specs.Completeness.{dark-exactly}
-use Rattle.theory.specs.Feeds.{Single, no-clash, lit-fed, dark-fed, Reaches, reaches-usable, usable-reaches}
+use Rattle.theory.specs.Feeds.{Single, no-clash, lit-fed, dark-fed, reaches-usable, usable-reaches}
 use Rattle.theory.specs.Interruption.{Fewer, NoneStuckClosed, opening-single, closing-single}
-use Rattle.theory.specs.Locality.{Agree, feed-ext, commands-ext, sheet-ext}
-use Rattle.theory.specs.Demand3.{Controller, PlantState, freshPlant, effect, afterWord, afterWords, Operation, operation, performAll, Phases, decode, Call, step, Calls, nothing, _then_, Begins, whole, longer, replyTo, words, lent, servedOutcome, isServed, World, Performed, performed, Ended, started, served, refused, Moment, in-first, in-second, isStuckClosed, isEmpty, excepted, Interrupted, in-start, between, in-call, shownAt, BusShown, RecordGiven, AsChosen, wordRefusal, Meets, no-part, no-word, no-room, Answered, Holds, Demand3}
+use Rattle.theory.specs.Locality.{feed-ext}
+use Rattle.theory.specs.Demand3.{Controller, PlantState, freshPlant, effect, afterWord, afterWords, Operation, performAll, Phases, decode, Call, step, Calls, nothing, _then_, replyTo, words, servedOutcome, isServed, World, Performed, performed, Ended, started, served, refused, Moment, in-first, in-second, isStuckClosed, isEmpty, excepted, Interrupted, in-start, between, in-call, shownAt, BusShown, AsChosen, wordRefusal, Meets, no-part, no-word, no-room, Answered, Holds, Demand3}
 use Rattle.theory.specs.Operations.{perform-health}
-use Rattle.theory.specs.Steady.{Ready, phasesOf, Steady, sheet-is, fit-of-kind, as-chosen, served-decodes, transition-steady, steady-good, some-of-prefix, some-of-perm, first-fewer, first-done, second-fewer}
+use Rattle.theory.specs.Steady.{Ready, phasesOf, Steady, sheet-is, fit-of-kind, as-chosen, served-decodes, transition-steady, steady-good, some-of-prefix, first-fewer, first-done, second-fewer}
 
 -- the controller of the definitions
 abbrev pub controller : Controller

@@ -2,23 +2,22 @@
 -- choice is fed by the generator named and no other, a dark bus by none.
 use mathlib.Core.Path.{_≡_, refl, sym, _∙_, ap}
 use mathlib.Core.Bool.{Bool, true, false, not, _&&_, _||_, cond}
-use mathlib.Core.Logic.{_≢_, _⊎_, inl, inr, _↔_}
+use mathlib.Core.Logic.{_≢_, _⊎_, inl, inr}
 use mathlib.Core.List.{List, [], _∷_, List·Memᴰ·head, List·Memᴰ·tail, List·Memᴰ·not-nil}
 use mathlib.Core.Option.{Option, none, some}
 use Prim.Native.Nat.{ℕ, zero, suc, _≤_, _<_}
 use native.Mathlib.Omega.{arith}
-use borrow.Author.Tests.{eqb-true, not-true}
+use borrow.Author.Tests.{not-true}
 use Rattle.model.specs.declared.Part.{Part}
-use Rattle.model.specs.declared.Feed.{Feed}
 use Rattle.model.specs.declared.Feed.the-variants.{Dark, Fed, Clash}
-use Rattle.model.specs.Lists.{below, keep}
+use Rattle.model.specs.Lists.{below}
 use Rattle.model.specs.Plant.{PartHealth, PartCommands, generator, generatorBreaker, busBreaker, fit, stuckOpen, stuckClosed, closed, up, Leads, connected, busBreakerClosed, running, feeds, feeders, feedBy, busFeed}
-use Rattle.model.specs.Priority.{Path, pathBusBreakers, pathParts}
+use Rattle.model.specs.Priority.{Path, pathParts}
 use Rattle.model.specs.Choosing.{onPaths, countedClosed, choose, addPath, chosen, plan, commands}
 use Rattle.model.specs.Laws.Tests.{contra, not-of, and-left, and-right, and-intro, or-cases, or-left, or-right, dec, dec-eq}
-use Rattle.model.specs.Laws.Lists.{_∈_, below-in, below-lt, keep-at, keep-in, Rising, RisingBy, more, rising-below, rising-keep, none-some}
+use Rattle.model.specs.Laws.Lists.{_∈_, below-in, below-lt, keep-at, keep-in, Rising, more, rising-below, rising-keep, none-some}
 use Rattle.theory.specs.Connected.{Arc, connected-leads, leads-connected, leads-mono, leads-trans, leads-sym, arc-leads, leads-arcs}
-use Rattle.theory.specs.Paths.{Ends, Uses, pathTo, lower, upper, path-at, path-in, generator-on, generator-breaker-on, source-on, breaker-on}
+use Rattle.theory.specs.Paths.{Ends, Uses, pathTo, path-in, generator-on, source-on, breaker-on}
 use Rattle.theory.specs.Choosing.{on-at, on-in, Usable, Safe, counted-in, counted-usable, safe-chosen}
 use Rattle.theory.specs.Completeness.{complete, chosen-usable}
 

@@ -1,17 +1,14 @@
 -- Every interruption of a plan's commands is safe, over any two healths: while parts open or stop no more feeds than before,
 -- unless a breaker has stuck closed; once they have opened, what stands is within the new commands.
-use mathlib.Core.Path.{_≡_, refl, sym, _∙_}
+use mathlib.Core.Path.{_≡_}
 use mathlib.Core.Bool.{Bool, true, false}
 use mathlib.Core.Logic.{_⊎_, inl, inr}
-use mathlib.Core.Option.{Option, none, some}
-use Prim.Native.Nat.{ℕ, _≤_, _<_}
+use Prim.Native.Nat.{ℕ, _<_}
 use native.Mathlib.Omega.{arith}
 use Rattle.model.specs.declared.Part.{Part}
 use Rattle.model.specs.Plant.{PartHealth, PartCommands, generator, generatorBreaker, busBreaker, fit, stuckOpen, stuckClosed, closed}
-use Rattle.model.specs.Priority.{Path, pathParts}
 use Rattle.model.specs.Choosing.{chosen, commands}
 use Rattle.model.specs.Laws.Tests.{or-left}
-use Rattle.model.specs.Laws.Lists.{_∈_}
 use Rattle.model.specs.Laws.Parts.{InRing, at-index}
 use Rattle.theory.specs.Paths.{generator-on, generator-breaker-on, bus-breaker-on, path-at}
 use Rattle.theory.specs.Choosing.{Safe, safe-chosen}

@@ -1,8 +1,7 @@
 -- Parts above n are not read: choices, commands, phases and feeds depend on the parts of the ring alone.
-use mathlib.Core.Path.{_≡_, refl, sym, _∙_, ap, ap₂}
+use mathlib.Core.Path.{_≡_, refl, ap, ap₂}
 use mathlib.Core.Bool.{Bool, true, false, not, _&&_, _||_, cond}
-use mathlib.Core.List.{List, [], _∷_, List·Memᴰ·head, List·Memᴰ·tail}
-use mathlib.Core.Option.{Option, none, some}
+use mathlib.Core.List.{List, _∷_}
 use Prim.Native.Nat.{ℕ, zero, suc, _≤_, _<_}
 use native.Mathlib.Omega.{arith}
 use lib.Dec.{ltb, eqb}
@@ -10,17 +9,16 @@ use borrow.Author.Tests.{ltb-true}
 use Rattle.model.specs.declared.Part.{Part}
 use Rattle.model.specs.declared.Choice.the-variants.{Dark}
 use Rattle.model.specs.declared.BusChoice.{BusChoice}
-use Rattle.model.specs.Lists.{below, keep, first, anyOf, allOf}
-use Rattle.model.specs.Plant.{PartHealth, PartCommands, largest, parts, generator, generatorBreaker, busBreaker, fit, stuckOpen, stuckClosed, closed, connected, busBreakerClosed, running, feeds, feeders, feedBy, busFeed}
-use Rattle.model.specs.Priority.{Path, pathBreakers, pathParts, paths}
-use Rattle.model.specs.Choosing.{onPaths, usable, countedClosed, isolated, permitted, choose, addPath, chosen, plan, commands, choiceOf, choices}
-use Rattle.model.specs.Sheet.{opening, closing, sheet, sheetOf}
-use Rattle.model.specs.Laws.Tests.{dec, contra}
+use Rattle.model.specs.Lists.{below}
+use Rattle.model.specs.Plant.{PartHealth, PartCommands, largest, parts, generator, generatorBreaker, busBreaker, fit, stuckOpen, closed, busBreakerClosed, running, feeds, feeders, feedBy, busFeed}
+use Rattle.model.specs.Priority.{Path, pathBreakers, paths}
+use Rattle.model.specs.Choosing.{usable, countedClosed, isolated, permitted, choose, chosen, plan, commands, choiceOf, choices}
+use Rattle.model.specs.Sheet.{opening, closing, sheet}
 use Rattle.model.specs.Laws.Lists.{_∈_, all-cons, all-ext, first-ext, keep-ext, map-ext, below-lt}
 use Rattle.model.specs.Laws.Parts.{InRing, at-index, parts-at}
 use Rattle.theory.specs.Connected.{connected-ext}
 use Rattle.theory.specs.Paths.{Ends, path-in-ring, breakers-on, tried-at}
-use Rattle.theory.specs.Choosing.{Safe, safe-chosen}
+use Rattle.theory.specs.Choosing.{safe-chosen}
 use Rattle.theory.specs.Feeds.{commanded-at}
 
 -- two values for each part agree on the parts of the ring

@@ -1,25 +1,23 @@
 -- Operations performed in any order, and that the bytes of a sheet decode to its operations.
 use mathlib.Core.Path.{_≡_, refl, sym, _∙_, ap, ap₂}
-use mathlib.Core.Bool.{Bool, true, false, not, _&&_, cond}
-use mathlib.Core.Logic.{_≢_, _⊎_, inl, inr, _↔_}
-use mathlib.Core.List.{List, [], _∷_, _++_, map, append-assoc, List·Memᴰ·head, List·Memᴰ·tail, List·Memᴰ·not-nil, List·Memᴰ·cases-cons, Memᴰ·append-left, List·Permᴰ, List·Permᴰ·nil, List·Permᴰ·cons, List·Permᴰ·swap, List·Permᴰ·trans, Permᴰ·symm}
-use mathlib.Core.Option.{Option, none, some}
-use Prim.Native.Nat.{ℕ, zero, suc, _+_, _*_, _≤_, _<_}
+use mathlib.Core.Bool.{Bool, true, false, not, _&&_}
+use mathlib.Core.Logic.{_⊎_, inl, inr}
+use mathlib.Core.List.{List, [], _∷_, _++_, map, append-assoc, List·Memᴰ·head, List·Memᴰ·tail, List·Memᴰ·not-nil, List·Memᴰ·cases-cons, List·Permᴰ, List·Permᴰ·nil, List·Permᴰ·cons, List·Permᴰ·swap, List·Permᴰ·trans}
+use mathlib.Core.Option.{some}
+use Prim.Native.Nat.{ℕ, suc, _+_, _*_, _≤_}
 use native.Mathlib.Omega.{arith}
-use lib.Dec.{leb}
-use lib.ListN.{length, getD, take, drop, length-append, length-map, length-drop}
+use lib.ListN.{length, take, drop, length-append, length-map}
 use lib.Seq.{take-at, drop-at}
 use borrow.Author.Tests.{le-leb, not-true}
 use Rattle.model.specs.declared.Part.{Part}
 use Rattle.model.specs.Values.{partCode, samePart}
-use Rattle.model.specs.Plant.{PartHealth, PartCommands, largest, parts}
+use Rattle.model.specs.Plant.{PartCommands, largest, parts}
 use Rattle.model.specs.Sheet.{opening, closing, sheetOf, written}
-use Rattle.model.specs.Reports.{partNamed}
 use Rattle.model.specs.Laws.Tests.{contra, dec, and-left, and-right, and-intro, not-of}
-use Rattle.model.specs.Laws.Lists.{_∈_, map-in, map-at, keep-at, keep-in}
+use Rattle.model.specs.Laws.Lists.{_∈_, map-at, keep-at, keep-in}
 use Rattle.model.specs.Laws.Parts.{InRing, parts-in, parts-at, same-eq, same-refl}
 use Rattle.model.specs.Laws.Reports.{named-code}
-use Rattle.theory.specs.Demand3.{PlantState, Operation, operation, perform, performAll, Phases, commandNamed, withOperation, operations, phasesAt, decode}
+use Rattle.theory.specs.Demand3.{PlantState, Operation, operation, perform, performAll, commandNamed, withOperation, operations, phasesAt, decode}
 
 -- ---- performing
 

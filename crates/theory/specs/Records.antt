@@ -1,37 +1,35 @@
 -- A record, arrays of 20 places, meets no condition of refusal 9 exactly when start and steps make it.
-use mathlib.Core.Path.{_≡_, refl, sym, _∙_, ap, ap₂}
+use mathlib.Core.Path.{_≡_, refl, sym, _∙_, ap}
 use mathlib.Core.Bool.{Bool, true, false, not, _&&_, _||_, cond, Bool·beq}
-use mathlib.Core.Logic.{_≢_, _⊎_, inl, inr, _↔_}
-use mathlib.Core.List.{List, [], _∷_, List·Memᴰ·head, List·Memᴰ·tail, List·Memᴰ·not-nil, Permᴰ·refl}
-use Prim.Native.Nat.{ℕ, zero, suc, _≤_, _<_}
+use mathlib.Core.Logic.{_⊎_, inl, inr, _↔_}
+use mathlib.Core.List.{List, [], _∷_, List·Memᴰ·head, List·Memᴰ·tail, Permᴰ·refl}
+use Prim.Native.Nat.{ℕ, _≤_, _<_}
 use native.Mathlib.Omega.{arith}
-use lib.Dec.{ltb, leb, eqb}
-use lib.ListN.{length, getD, replicate, length-replicate}
-use borrow.Author.Tests.{ltb-true, ltb-false, lt-ltb, le-ltb, eqb-true, not-true, not-false}
+use lib.Dec.{ltb}
+use lib.ListN.{length, replicate, length-replicate}
+use borrow.Author.Tests.{ltb-false, lt-ltb, le-ltb, eqb-true, not-false}
 use Rattle.model.specs.declared.Part.{Part}
 use Rattle.model.specs.declared.Part.the-variants.{Generator, GeneratorBreaker, BusBreaker}
 use Rattle.model.specs.declared.Word.{Word}
-use Rattle.model.specs.declared.Word.the-variants.{Fit, StuckOff, StuckOpen, StuckClosed}
+use Rattle.model.specs.declared.Word.the-variants.{StuckOff, StuckOpen, StuckClosed}
 use Rattle.model.specs.declared.Report.{Report}
 use Rattle.model.specs.declared.Ring.{Ring}
-use Rattle.model.specs.declared.Health.{Health}
-use Rattle.model.specs.declared.Commands.{Commands}
 use Rattle.model.specs.Lists.{anyOf}
 use Rattle.model.specs.Values.{number, samePart, wordNumber, outcomeOf}
 use Rattle.model.specs.Plant.{PartHealth, PartCommands, smallest, largest, parts, fit, stuckOff, stuckOpen, stuckClosed, healthOfKind, generator, generatorBreaker, busBreaker}
 use Rattle.model.specs.Choosing.{commands}
 use Rattle.model.specs.Sheet.{sheet}
-use Rattle.model.specs.Reports.{reported, allFit, places, atNumber, healthOf, commandsOf, healthPlaces, commandPlaces, blankRing, withPlan}
-use Rattle.model.specs.Refusals.{sizeOutside, healthOutside, activeAbove, unplanned, badRecord, nextHealth, startRefusal, stepRefusal, firstMet, tooShort, nextSheet}
+use Rattle.model.specs.Reports.{reported, allFit, places, healthOf, commandsOf, healthPlaces, commandPlaces, blankRing, withPlan}
+use Rattle.model.specs.Refusals.{sizeOutside, healthOutside, activeAbove, unplanned, badRecord, nextHealth, startRefusal, firstMet, tooShort, nextSheet}
 use Rattle.model.specs.Answers.{Reply, servedReply, refusedReply, startReply, stepReply}
-use Rattle.model.specs.Laws.Tests.{contra, dec, dec-lt, or-none, or-cases, and-intro, not-of}
-use Rattle.model.specs.Laws.Lists.{_∈_, any-at, any-in, any-none, any-false, all-cons}
-use Rattle.model.specs.Laws.Parts.{InRing, at-index, parts-in, parts-at, same-eq, same-refl, is-places, places-ext, health-places, command-places}
+use Rattle.model.specs.Laws.Tests.{contra, dec, dec-lt, or-none, or-cases}
+use Rattle.model.specs.Laws.Lists.{_∈_, any-in, any-none}
+use Rattle.model.specs.Laws.Parts.{InRing, at-index, parts-in, parts-at, same-eq, same-refl, is-places, places-ext, health-places}
 use Rattle.model.specs.Laws.Sheet.{sheet-fits}
 use Rattle.theory.specs.Locality.{Agree, commands-ext}
-use Rattle.theory.specs.Demand3.{PlantState, freshPlant, afterWord, Phases, performed, World, isServed, servedOutcome, wordRefusal, Meets, no-part, no-word, no-room}
-use Rattle.theory.specs.Steady.{Ready, Steady, phasesOf, served-decodes, steady-good}
-use Rattle.theory.specs.Demand3Holds.{controller, step-outcome, step-served, step-refused, start-served, zero-served, step-ready, start-ready, Judged, met, fine, judged, refusal, start-steady, step-steady}
+use Rattle.theory.specs.Demand3.{afterWord, performed, World, isServed, wordRefusal, no-part, no-word, no-room}
+use Rattle.theory.specs.Steady.{Steady, served-decodes, steady-good}
+use Rattle.theory.specs.Demand3Holds.{step-outcome, step-served, step-refused, start-served, zero-served, step-ready, start-ready, Judged, met, fine, judged, refusal, start-steady, step-steady}
 
 -- what start and steps make, refused steps too
 pub data Made : Ring → Type 0 where

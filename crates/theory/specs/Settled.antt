@@ -1,10 +1,10 @@
 -- Document 01, "Settled positions": the starred dozen, in one theorem over their table.
 use mathlib.Core.Path.{_≡_, refl}
-use mathlib.Core.List.{List, [], _∷_, map, flatMap, reverse}
+use mathlib.Core.List.{List, [], _∷_, map, flatMap}
 use Prim.Native.Nat.{ℕ}
 use lib.ListN.{take}
 use Rattle.model.specs.declared.Part.the-variants.{Generator, GeneratorBreaker, BusBreaker}
-use Rattle.model.specs.declared.Word.the-variants.{Fit, StuckOff, StuckOpen, StuckClosed}
+use Rattle.model.specs.declared.Word.the-variants.{StuckOff, StuckOpen, StuckClosed}
 use Rattle.model.specs.declared.Report.{Report}
 use Rattle.model.specs.declared.Choice.{Choice}
 use Rattle.model.specs.declared.Choice.the-variants.{Dark, Own, High, Low}

@@ -1,33 +1,32 @@
 -- What a transition of the ring does: its choices and phases are document 01's, its operations bring the new commands about,
 -- and the record that it gives meets no condition of refusal 9.
 use mathlib.Core.Path.{_≡_, refl, sym, _∙_, ap}
-use mathlib.Core.Bool.{Bool, true, false, not, _&&_, _||_, cond, Bool·beq}
-use mathlib.Core.Logic.{_≢_, _⊎_, inl, inr, _↔_}
-use mathlib.Core.List.{List, [], _∷_, _++_, map, List·Memᴰ·head, List·Memᴰ·tail, Memᴰ·append-left, List·Permᴰ, Permᴰ·symm}
-use mathlib.Core.Option.{Option, none, some}
-use Prim.Native.Nat.{ℕ, zero, suc, _+_, _≤_, _<_}
+use mathlib.Core.Bool.{Bool, true, false, not, _&&_, _||_, Bool·beq}
+use mathlib.Core.Logic.{_⊎_, inl, inr}
+use mathlib.Core.List.{List, _++_, map, Memᴰ·append-left, List·Permᴰ, Permᴰ·symm}
+use mathlib.Core.Option.{some}
+use Prim.Native.Nat.{ℕ, _≤_, _<_}
 use native.Mathlib.Omega.{arith}
-use lib.Dec.{ltb, eqb}
-use borrow.Author.Tests.{ltb-true, ltb-false, le-ltb, lt-ltb}
+use lib.Dec.{ltb}
+use borrow.Author.Tests.{le-ltb, lt-ltb}
 use Rattle.model.specs.declared.Part.{Part}
 use Rattle.model.specs.declared.Part.the-variants.{Generator, GeneratorBreaker, BusBreaker}
 use Rattle.model.specs.declared.Ring.{Ring}
-use Rattle.model.specs.declared.BusChoice.{BusChoice}
 use Rattle.model.specs.Lists.{anyOf}
 use Rattle.model.specs.Values.{number}
 use Rattle.model.specs.Plant.{PartHealth, PartCommands, smallest, largest, parts, fit, healthOfKind}
 use Rattle.model.specs.Choosing.{commands, choices}
-use Rattle.model.specs.Sheet.{opening, closing, sheet, sheetOf, written}
-use Rattle.model.specs.Reports.{healthOf, commandsOf, healthPlaces, commandPlaces, withPlan}
+use Rattle.model.specs.Sheet.{opening, closing, sheet}
+use Rattle.model.specs.Reports.{healthOf, commandsOf, withPlan}
 use Rattle.model.specs.Refusals.{sizeOutside, healthOutside, activeAbove, unplanned, badRecord, nextSheet}
-use Rattle.model.specs.Answers.{Reply, servedReply}
+use Rattle.model.specs.Answers.{servedReply}
 use Rattle.model.specs.Laws.Tests.{contra, dec, dec-lt}
 use Rattle.model.specs.Laws.Lists.{_∈_, any-false, map-in}
 use Rattle.model.specs.Laws.Parts.{InRing, parts-at, health-places, command-places}
-use Rattle.theory.specs.Locality.{Agree, choices-ext, commands-ext, commanded-in-ring, opening-ext, closing-ext, sheet-ext}
+use Rattle.theory.specs.Locality.{Agree, choices-ext, commands-ext, commanded-in-ring, sheet-ext}
 use Rattle.theory.specs.Interruption.{Fewer}
 use Rattle.theory.specs.Demand3.{PlantState, Operation, operation, performAll, Phases, decode, Performed, performed, World, AsChosen}
-use Rattle.theory.specs.Operations.{perform-health, Struck, hit, miss, struck, perm-in, operation-at, opening-at, opening-in, closing-at, closing-in, AllInRing, decode-sheet}
+use Rattle.theory.specs.Operations.{perform-health, Struck, hit, miss, struck, perm-in, operation-at, opening-at, opening-in, closing-at, closing-in, decode-sheet}
 
 -- ---- operations of the two phases, in any order
 

@@ -2,7 +2,7 @@
 use mathlib.Core.Path.{_≡_, refl, sym, _∙_, ap}
 use mathlib.Core.Bool.{Bool, true, false, not, _&&_, _||_, cond}
 use mathlib.Core.Logic.{_≢_, _⊎_, inl, inr, _↔_}
-use mathlib.Core.List.{List, [], _∷_, _++_, map, flatMap, reverse, List·Memᴰ·head, List·Memᴰ·tail, List·Permᴰ, Permᴰ·refl}
+use mathlib.Core.List.{List, [], _∷_, _++_, map, flatMap, List·Memᴰ·head, List·Memᴰ·tail, Permᴰ·refl}
 use mathlib.Core.Option.{Option, none, some}
 use Prim.Native.Nat.{ℕ, zero, suc, _+_, _*_, _≤_, _<_}
 use native.Mathlib.Omega.{arith}
@@ -10,17 +10,16 @@ use lib.Dec.{ltb, leb, eqb}
 use lib.ListN.{length, getD, take, drop, replicate, length-map}
 use borrow.Author.Tests.{eq-eqb, not-true, leb-true}
 use Rattle.model.specs.declared.Part.{Part}
-use Rattle.model.specs.declared.Part.the-variants.{Generator, GeneratorBreaker, BusBreaker}
+use Rattle.model.specs.declared.Part.the-variants.{Generator, BusBreaker}
 use Rattle.model.specs.declared.Word.the-variants.{Fit, StuckOff, StuckOpen, StuckClosed}
 use Rattle.model.specs.declared.Report.{Report}
 use Rattle.model.specs.declared.Ring.{Ring}
 use Rattle.model.specs.declared.Choice.{Choice}
 use Rattle.model.specs.declared.Choice.the-variants as choice
-use Rattle.model.specs.declared.BusChoice.{BusChoice}
 use Rattle.model.specs.declared.Feed.{Feed}
 use Rattle.model.specs.declared.Feed.the-variants as feed
 use Rattle.model.specs.Lists.{below, keep, first, anyOf, allOf}
-use Rattle.model.specs.Values.{samePart, partCode, outcomeOf, choiceSource, choiceLetter, feedSources}
+use Rattle.model.specs.Values.{samePart, partCode, outcomeOf, choiceSource, choiceLetter}
 use Rattle.model.specs.Plant.{PartHealth, PartCommands, smallest, largest, busBreaker, parts, stuckClosed, healthOfKind, next, up, arc, connected, feeds, feeders, feedBy, busFeed}
 use Rattle.model.specs.Priority.{Path, others, sources, pathBusBreakers, pathBreakers, pathParts, highRises, highPath, lowPath, pathsFrom, paths}
 use Rattle.model.specs.Choosing.{onPaths, usable, countedClosed, isolated, permitted, choose, addPath, chosen, plan, commands, choiceOf, choices}
@@ -28,12 +27,12 @@ use Rattle.model.specs.Sheet.{opening, closing, sheetOf, sheet, written}
 use Rattle.model.specs.Reports.{partNamed, reported, allFit, places, healthOf, commandsOf, healthPlaces, commandPlaces, blankRing, withPlan}
 use Rattle.model.specs.Refusals.{firstMet, nextHealth, nextSheet, sizeOutside, healthOutside, activeAbove, unplanned, badRecord, notOfRing, wordOfOtherKind, generatorFitAgain, tooShort, reportConditions, startRefusal, stepRefusal}
 use Rattle.model.specs.Answers.{Reply, refusedReply, servedReply, startReply, stepReply, allDark}
-use Rattle.model.specs.Laws.Tests.{contra, dec, or-cases, and-left, and-right, not-of}
+use Rattle.model.specs.Laws.Tests.{contra, dec, or-cases, and-left, and-right}
 use Rattle.model.specs.Laws.Lists.{_∈_, any-at, below-lt, none-some, first-none, RisingBy, all-at}
 use Rattle.theory.specs.Paths.{Ends, tried-at}
 use Rattle.theory.specs.Choosing.{usable-at}
 use Rattle.theory.specs.Feeds.{Reaches, usable-reaches}
-use Rattle.theory.specs.Demand3.{Controller, PlantState, freshPlant, afterWord, afterWords, Operation, operation, perform, performAll, Phases, commandNamed, withOperation, operations, phasesAt, decode, Call, step, Calls, nothing, _then_, Begins, whole, longer, replyTo, words, isServed, World, Performed, performed, Ended, started, served, refused, Moment, in-first, in-second, isStuckClosed, excepted, Interrupted, in-call, shownAt, BusShown, AsChosen, Holds, Demand3}
+use Rattle.theory.specs.Demand3.{Controller, PlantState, freshPlant, afterWord, afterWords, Operation, operation, perform, performAll, Phases, commandNamed, withOperation, operations, phasesAt, decode, Call, step, Calls, nothing, _then_, whole, replyTo, words, isServed, World, performed, Ended, started, served, refused, in-first, in-second, isStuckClosed, excepted, Interrupted, in-call, shownAt, BusShown, AsChosen, Holds, Demand3}
 use Rattle.theory.specs.Demand3Holds.{controller, choices-at}
 use Rattle.theory.specs.Demand2.{FirstPermitted, found, not-found, earlier, Needed, Serves, Demand2}
 use Rattle.theory.specs.Demand2Holds.{rising-distinct, distinct-shorter, earlier-chosen, opens-exactly, closes-exactly, opens-rise, closes-rise}

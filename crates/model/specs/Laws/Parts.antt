@@ -1,6 +1,6 @@
 -- Laws of parts, their codes, and the arrays that hold a value for each.
-use mathlib.Core.Path.{_≡_, refl, sym, _∙_, ap, ap₂}
-use mathlib.Core.Bool.{Bool, true, false, _&&_, cond}
+use mathlib.Core.Path.{_≡_, refl, sym, _∙_, ap}
+use mathlib.Core.Bool.{true, false}
 use mathlib.Core.Logic.{_⊎_, inl, inr, _≢_}
 use mathlib.Core.List.{List, [], _∷_, _++_, map, List·Memᴰ·append-cases, Memᴰ·append-left, Memᴰ·append-right}
 use Prim.Native.Nat.{ℕ, zero, suc, _+_, _*_, _≤_, _<_}
@@ -8,17 +8,14 @@ use native.Mathlib.Omega.{arith}
 use lib.Dec.{eqb}
 use lib.ListN.{length, getD, set, length-map, length-set, length-append}
 use lib.Seq.{ext-getD, getD-set-same, getD-set-other}
-use borrow.Author.Tests.{eqb-true, eq-eqb, ne-eqb}
+use borrow.Author.Tests.{eqb-true, eq-eqb}
 use Rattle.model.specs.declared.Part.{Part}
 use Rattle.model.specs.declared.Part.the-variants.{Generator, GeneratorBreaker, BusBreaker}
-use Rattle.model.specs.declared.Report.{Report}
-use Rattle.model.specs.declared.Health.{Health}
-use Rattle.model.specs.declared.Commands.{Commands}
 use Rattle.model.specs.Lists.{below}
-use Rattle.model.specs.Values.{number, index, firstCode, partCode, samePart, wordNumber}
+use Rattle.model.specs.Values.{number, index, firstCode, partCode, samePart}
 use Rattle.model.specs.Plant.{PartHealth, PartCommands, largest, generator, generatorBreaker, busBreaker, parts}
-use Rattle.model.specs.Reports.{atNumber, places, healthOf, commandsOf, healthPlaces, commandPlaces, reported}
-use Rattle.model.specs.Laws.Tests.{and-left, and-right, and-intro, dec, dec-eq, contra}
+use Rattle.model.specs.Reports.{atNumber, places, healthOf, commandsOf, healthPlaces, commandPlaces}
+use Rattle.model.specs.Laws.Tests.{and-intro, dec-eq, contra}
 use Rattle.model.specs.Laws.Lists.{_∈_, below-in, below-lt, below-length, below-at, map-in, map-at, RisingBy, rising-append, rising-map, rising-mono, rising-below}
 
 -- ---- one part

@@ -1,17 +1,15 @@
 -- Laws of codes and words: reading a code or a word undoes writing it.
-use mathlib.Core.Path.{_≡_, refl, sym}
-use mathlib.Core.Bool.{Bool, true, false}
-use mathlib.Core.Option.{Option, none, some}
-use Prim.Native.Nat.{ℕ, _≤_, _<_, min}
+use mathlib.Core.Path.{_≡_, refl}
+use mathlib.Core.Option.{some}
+use Prim.Native.Nat.{ℕ, _≤_, min}
 use native.Mathlib.Omega.{arith}
 use lib.Dec.{eqb}
 use borrow.Author.Tests.{eqb-true, eq-eqb}
 use Rattle.model.specs.declared.Part.{Part}
-use Rattle.model.specs.Lists.{first}
-use Rattle.model.specs.Values.{number, partCode}
+use Rattle.model.specs.Values.{partCode}
 use Rattle.model.specs.Plant.{largest, parts}
 use Rattle.model.specs.Reports.{partNamed}
-use Rattle.model.specs.Laws.Lists.{_∈_, first-only, first-at}
+use Rattle.model.specs.Laws.Lists.{first-only, first-at}
 use Rattle.model.specs.Laws.Parts.{InRing, parts-in, parts-at, code-only}
 
 in-least : (n : ℕ) (p : Part) → n ≤ largest → InRing n p → InRing (min n largest) p
