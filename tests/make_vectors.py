@@ -1,0 +1,155 @@
+#!/usr/bin/env python3
+"""Makes the stored cases of the vector programs from the simulation in tests/simulation, never from our own programs.
+
+    tests/make_vectors.py            writes crates/vectors*/stdin and crates/vectors*/stdout
+
+runs    fault files and their printed runs: for each 2 bytes length of the file, 4 bytes length of the text, both low byte
+        first, the file, the text.
+plant   reckonings: n, 60 healths, 60 commands; then the number of the outcome and for each of 20 buses three bytes: 0 dark,
+        1 fed, 2 a clash, and the generators named.
+step    starts and steps with damaged records and short buffers: n (and then 255 for a start), 60 healths, 60 commands, the
+        report's kind, number and word, the buffer's length; then the number of the outcome, the record, for each of 20 buses
+        the letter and source of its choice, and the buffer, which held 170 in every byte.
+"""
+import itertools
+import os
+import random
+import sys
+
+HERE = os.path.dirname(os.path.abspath(__file__))
+sys.path.insert(0, os.path.join(HERE, "simulation"))
+import compare  # noqa: E402
+import ringsim as rs  # noqa: E402
+
+CRATES = os.path.join(HERE, "..", "crates")
+KINDS = (rs.GENERATOR, rs.GENERATOR_BREAKER, rs.BUS_BREAKER)
+
+
+def fault_file(n, pairs):
+    count = len(pairs)
+    return bytes([n, count % 256, count // 256] + [c for c, _ in pairs] + [w for _, w in pairs])
+
+
+def examples():
+    """The files of document 01: its examples, edges and settled positions, starred and not."""
+    yield from (bytes(b) for b in (
+        [3, 0], [2, 0, 0], [3, 1, 16], [3, 1, 0, 64], [3, 1, 0, 3, 1], [3, 1, 0, 64, 1], [3, 1, 0, 0, 0],
+        [3, 1, 0, 65, 2], [3, 0, 0], [], [3], [20, 0, 0], [21, 0, 0], [0, 0, 0], [255, 0, 0], [3, 0, 16], [3, 0, 0, 0],
+        [3, 1, 0, 64, 3], [3, 2, 0, 64, 3, 64, 0], [3, 1, 0, 64, 4], [3, 1, 0, 0, 2], [3, 1, 0, 0, 3], [3, 1, 0, 32, 1],
+        [3, 1, 0, 35, 2], [3, 1, 0, 67, 2], [3, 1, 0, 31, 1], [3, 1, 0, 63, 2], [3, 1, 0, 84, 2], [3, 1, 0, 255, 255],
+        [20, 1, 0, 19, 1], [20, 1, 0, 20, 1], [20, 1, 0, 51, 2], [20, 1, 0, 52, 2], [20, 1, 0, 83, 3], [20, 1, 0, 84, 3],
+        [3, 2, 0, 64, 65, 1, 9], [3, 2, 0, 99, 64, 0, 1], [3, 2, 0, 65, 65, 2, 2], [3, 2, 0, 65, 0, 0, 0]))
+    for faults in ([(65, 2), (66, 2)], [(64, 3)], [(66, 3)], [(0, 1)], [(0, 1), (1, 1)], [(0, 1), (1, 1), (2, 1)],
+                   [(33, 2)], [(2, 1), (65, 2), (66, 2)], [(65, 2), (65, 0)], [(65, 2), (65, 2)]):
+        yield fault_file(3, faults)
+    for n in range(3, 21):
+        yield fault_file(n, [])
+
+
+def single_and_double_faults():
+    """A ring of five, Figures 21 and 22 of document 004: every single fault, and every third double fault."""
+    faults = [(c, w) for c in rs.codes_of_ring(5) for w in range(4)
+              if rs.report_refusal(5, rs.report_of(c, w), rs.BASE) == 0 and w]
+    yield from (fault_file(5, [f]) for f in faults)
+    yield from (fault_file(5, list(pair)) for pair in list(itertools.combinations(faults, 2))[::3])
+
+
+def long_files(rng):
+    for n, m in ((3, 4096), (20, 4096), (7, 4096), (5, 1000)):
+        yield fault_file(n, [compare.good_pair(rng, n, rs.BASE, 3) for _ in range(m)])
+    yield bytes([3, 1, 16]) + bytes(2 * 4097)
+    yield bytes([3, 0, 16]) + bytes([64]) * 4096 + bytes(4095)
+    yield bytes([3, 0, 16]) + bytes([64]) * 4096 + bytes(4097)
+
+
+def random_files(rng, count):
+    for _ in range(count):
+        yield compare.fault_file(rng, rs.BASE)
+
+
+def runs(rng):
+    for data in itertools.chain(examples(), single_and_double_faults(), long_files(rng), random_files(rng, 250)):
+        text = rs.printed_run(data)
+        yield len(data).to_bytes(2, "little") + len(text).to_bytes(4, "little") + data + text
+
+
+def random_health(rng, n, spoil):
+    """Healths of all sixty parts: mostly fit; with spoil, now and then one that is none of its kind, or above n."""
+    health = {}
+    for code in rs.ALL_CODES:
+        part = rs.part_of_code(code)
+        health[code] = 0
+        if part.number <= n and rng.random() < 0.25:
+            health[code] = rng.choice(rs.HEALTHS_OF_KIND[part.kind])
+    if spoil:
+        health[rng.choice(rs.ALL_CODES)] = rng.choice([1, 2, 3, 4, 255])
+    return health
+
+
+def random_commands(rng, n):
+    return {code: rs.part_of_code(code).number <= n and rng.random() < 0.6 for code in rs.ALL_CODES}
+
+
+def places(values):
+    return bytes(int(values[code]) for code in rs.ALL_CODES)
+
+
+FEED_NUMBER = {"dark": 0, "fed": 1, "clash": 2}
+
+
+def plant(rng):
+    for i in range(600):
+        n = rng.choice([3, 3, 4, 5, 8, 20]) if i % 10 else rng.choice([0, 1, 2, 21, 255])
+        health = random_health(rng, min(n, 20), i % 4 == 0)
+        commands = {c: True for c in rs.ALL_CODES} if i == 1 else random_commands(rng, 20)
+        number, answers = rs.reckon(n, health, commands)
+        buses = b"".join(bytes([FEED_NUMBER[a[0]]] + list(a[1:]) + [0] * (3 - len(a))) for a in answers)
+        yield bytes([n]) + places(health) + places(commands) + bytes([number]) + buses
+
+
+def answer_bytes(answer, buffer):
+    choices = b"".join(b"-\0" if c is None else bytes([ord(c.rank), c.generator]) for c in answer.choices)
+    record = answer.record
+    return bytes([answer.refusal, record.n]) + places(record.health) + places(record.orders) + choices + bytes(buffer)
+
+
+def steps(rng):
+    blank = {c: 0 for c in rs.ALL_CODES}
+    for n in [0, 2, 3, 4, 5, 12, 20, 21, 255]:
+        for room in (0, 1, 5, 11, 12, 40, 82, 122):
+            buffer = bytearray([170] * room)
+            answer = rs.start(n, buffer)
+            yield bytes([n, 255]) + places(blank) + places(blank) + bytes([0, 0, 0, room]) + answer_bytes(answer, buffer)
+    for i in range(700):
+        n = rng.choice([3, 3, 4, 5, 9, 20])
+        record = rs.record_for(n, random_health(rng, n, False))
+        damage = i % 5
+        if damage == 1:
+            record.orders[rng.choice(rs.ALL_CODES)] ^= True
+        elif damage == 2:
+            record.health[rng.choice(rs.ALL_CODES)] = rng.choice([0, 1, 2, 3, 4])
+        elif damage == 3 and i % 15 == 3:
+            record.n = rng.choice([0, 2, 21, 200, n + 1])
+        part = rs.Part(rng.choice(KINDS), rng.choice([0, 1, 2, 3, n, n, n + 1, 33, 255]) if i % 7 == 0 else rng.randint(1, n))
+        word = rng.randrange(4)
+        room = rng.choice([0, 1, 2, 3, 4, 6, 8, 12, 122]) if i % 3 == 0 else 122
+        buffer = bytearray([170] * room)
+        before = bytes([record.n, 0]) + places(record.health) + places(record.orders)
+        answer = rs.step(record, rs.Report(part, word), buffer)
+        yield before + bytes([KINDS.index(part.kind), part.number, word, room]) + answer_bytes(answer, buffer)
+
+
+def store(crate, cases):
+    cases = list(cases)
+    os.makedirs(os.path.join(CRATES, crate), exist_ok=True)
+    with open(os.path.join(CRATES, crate, "stdin"), "wb") as out:
+        out.write(b"".join(cases))
+    with open(os.path.join(CRATES, crate, "stdout"), "w") as out:
+        out.write("%d cases, 0 differ\n" % len(cases))
+    print("%s: %d cases" % (crate, len(cases)))
+
+
+if __name__ == "__main__":
+    store("vectors", runs(random.Random(1)))
+    store("vectors_plant", plant(random.Random(2)))
+    store("vectors_step", steps(random.Random(3)))
