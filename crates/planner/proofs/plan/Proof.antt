@@ -1,0 +1,36 @@
+-- `planner::plan` meets its contract. The loop's invariant: the progress and the choices are those of the buses served.
+use Rattle.planner.proofs.Auto.{auto}
+use mathlib.Core.Path.{_≡_, _∙_}
+use Prim.Native.Nat.{_≤_, _-_}
+use native.Mathlib.Nat.{le-antisymm}
+use Rattle.model.specs.Reports.{healthOf}
+use Rattle.planner.specs.Progress.{served, served-none, choicesTo, choices-none, choices-more, choices-all, commands-all}
+use Rattle.planner.proofs.plan.Statement.{statement}
+use Rattle.planner.proofs.plan.Tie as tie
+
+abbrev Inv-loop : tie.InvT-loop
+Inv-loop n health size usable choices₀ s₀ b₀ choices s b = (b ≤ n) × (s ≡ served n (healthOf health) b) × (choices ≡ choicesTo n (healthOf health) b)
+
+abbrev μ-loop : tie.MeasureT-loop
+μ-loop n health size usable choices₀ s₀ b₀ choices s b = n - b
+
+loop-again : tie.Need-loop-again Inv-loop μ-loop
+loop-again c =
+    let q = c .before .before .before in
+    let a = q .before .before .args in
+    let e = c .before .serve .ensures in
+    (search auto, e, rw (q .loop .inv .2, e) (choices-more (a .n) (healthOf (a .health)) (q .loop .b) (search auto)))
+
+returns : tie.Need-returns Inv-loop μ-loop
+returns c =
+    let d = c .before .before .before in
+    let q = d .before in
+    let a = q .before .before .args in
+    let e = le-antisymm (q .loop .inv .0) (d .loop-test .left) in
+    let H = healthOf (a .health) in
+    ((rw e at (q .loop .inv .2)) ∙ choices-all (a .n) H, rw (rw e at (q .loop .inv .1)) (commands-all (a .n) H))
+
+pub plan-spec : {M : Type 1} → statement M
+plan-spec =
+    tie.close
+    (tie.spec Inv-loop μ-loop (λ c κs. search auto) (λ c. (search auto, served-none _ _, choices-none _ _)) (λ c κs. search auto) (λ c. search auto) (λ c. search auto) (λ c. search auto) (λ c. search auto) loop-again returns)

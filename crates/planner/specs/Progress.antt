@@ -1,0 +1,286 @@
+-- What is kept from bus to bus while they are served, and the laws that serving a bus keeps it.
+use mathlib.Core.Path.{_≡_, refl, sym, _∙_, ap}
+use mathlib.Core.Bool.{Bool, true, false, _||_, cond}
+use mathlib.Core.Logic.{_⊎_, inl, inr, _≢_}
+use mathlib.Core.List.{List, [], _∷_}
+use mathlib.Core.Option.{Option, none, some}
+use Prim.Native.Nat.{ℕ, zero, suc, _+_, _≤_, _<_}
+use native.Mathlib.Omega.{arith}
+use native.Mathlib.Numerals.{add-one}
+use lib.Dec.{ltb, eqb}
+use lib.ListN.{getD, set, replicate, length-replicate, getD-replicate}
+use borrow.Author.Tests.{lt-ltb, le-ltb, eqb-true, eq-eqb, ne-eqb}
+use Rattle.model.specs.declared.Part.{Part}
+use Rattle.model.specs.declared.Choice.{Choice}
+use Rattle.model.specs.declared.Choice.the-variants.{Dark}
+use Rattle.model.specs.declared.BusChoice.{BusChoice}
+use Rattle.model.specs.declared.Health.{Health}
+use Rattle.model.specs.Lists.{first, anyOf}
+use Rattle.model.specs.Values.{samePart}
+use Rattle.model.specs.Plant.{PartHealth, largest, generator, generatorBreaker, busBreaker, stuckClosed, arc}
+use Rattle.model.specs.Priority.{Path, pathParts, paths}
+use Rattle.model.specs.Choosing.{onPaths, countedClosed, permitted, choose, addPath, chosen, plan, commands, choiceOf, choices}
+use Rattle.model.specs.Reports.{places, healthOf, commandPlaces}
+use Rattle.model.specs.Laws.Tests.{iff, dec, dec-eq, dec-lt}
+use Rattle.model.specs.Laws.Lists.{_∈_, any-at, any-in, first-at, first-ext}
+use Rattle.model.specs.Laws.Parts.{same-eq, same-refl, places-at, places-ext, is-places}
+use Rattle.theory.specs.Geometry.{arc-at, arc-in}
+use Rattle.theory.specs.Connected.{connected-ext}
+use Rattle.theory.specs.Paths.{lower, Ends, lower-lt, path-at, path-in, source-on, breaker-on, line-on, generator-on, generator-breaker-on, bus-breaker-on, pathTo, tried-at}
+use Rattle.theory.specs.Choosing.{safe-chosen, chosen-ends}
+use Rattle.planner.specs.declared.Progress.{Progress}
+use Rattle.planner.specs.declared.Span.{Span}
+use Rattle.planner.specs.declared.Found.{Found}
+use Rattle.planner.specs.declared.Found.the-variants as found
+use Rattle.planner.specs.Arrays.{setAll, set-places, set-all-places, both}
+use Rattle.planner.specs.Walk.{reach, reach-at, reach-connected}
+use Rattle.planner.specs.Search.{spanOf, at, passesBy, pathFound}
+use Rattle.planner.specs.Owner.{owner, mayFeed, pathSteps, passes, ends-in, owner-more, walk-choice}
+
+-- the choice of the bus served last
+unfoldable pub lastChoice : ℕ → PartHealth → ℕ → Choice
+lastChoice n H zero = Dark
+lastChoice n H (suc k) = choiceOf n (plan n H k)
+
+-- after the first b buses: the owner of each bus, the generators on chosen paths, and the bus breakers on them
+unfoldable pub served : ℕ → PartHealth → ℕ → Progress
+served n H b =
+    record {
+      last = record { choice = lastChoice n H b };
+      owners = places (λ v. cond (ltb v n) (owner n H (chosen n H b) v) 0);
+      on = places (λ g. onPaths n (chosen n H b) (generator g));
+      closed = places (λ i. onPaths n (chosen n H b) (busBreaker i));
+    }
+
+-- a bus breaker counts as closed: B has the health of each, l says which are on chosen paths
+abbrev pub closedBy : (ℕ → ℕ) → List Bool → ℕ → Bool
+closedBy B l i = stuckClosed (B i) || getD l i false
+
+-- the progress with path w taken
+unfoldable pub taken : ℕ → (ℕ → ℕ) → Progress → Path → Progress
+taken n B s w =
+    let l = setAll true (arc n (lower w) (pathSteps n w)) (s .closed) in
+    let g = suc (w .source) in
+    record {
+      last = record { choice = choiceOf n (some w) };
+      owners = setAll g (reach n (closedBy B l) false (w .bus) n) (setAll g (reach n (closedBy B l) true (w .bus) n) (s .owners));
+      on = set (s .on) (w .source) true;
+      closed = l;
+    }
+
+-- the same from what code finds on the way: what the path is called, its generator's number, its span, the breakers and the owners
+pub taken-by : (n : ℕ) (B : ℕ → ℕ) (s : Progress) (w : Path) (c : Choice) (g : ℕ) (p : Span) (l : List Bool) (o o′ : List ℕ)
+    → c ≡ choiceOf n (some w) → g ≡ suc (w .source) → p ≡ spanOf n w → l ≡ setAll true (arc n (p .from) (p .steps)) (s .closed)
+    → o ≡ setAll g (reach n (closedBy B l) true (w .bus) n) (s .owners) → o′ ≡ setAll g (reach n (closedBy B l) false (w .bus) n) o
+    → record { last = record { choice = c }; owners = o′; on = set (s .on) (w .source) true; closed = l } ≡ taken n B s w
+unfolding taken
+taken-by n B s w c g p l o o′ ec eg ep el eo eo′ = rw (eo′, eo, el, ep, eg, ec)
+
+-- the progress with a bus left dark
+abbrev pub darkened : Progress → Progress
+darkened s = record { last = record { choice = Dark }; owners = s .owners; on = s .on; closed = s .closed }
+
+-- the choices of the first b buses
+unfoldable pub choicesTo : ℕ → PartHealth → ℕ → List BusChoice
+choicesTo n H b = places (λ v. record { choice = cond (ltb v b) (choiceOf n (plan n H v)) Dark })
+
+-- ---- the parts of one path more
+
+-- a part of one kind on the path, by a test of its index
+on-more : (n : ℕ) (ws : List Path) (w : Path) (p : Part) (t : Bool) → (t ≡ true → p ∈ pathParts n w) → (p ∈ pathParts n w → t ≡ true) → cond t true (onPaths n ws p) ≡ onPaths n (w ∷ ws) p
+unfolding onPaths anyOf
+on-more n ws w p t f g = either t (onPaths n ws p) ∙ ap (λ x. x || onPaths n ws p) (iff t (anyOf (samePart p) (pathParts n w)) (λ e. any-in (samePart p) (f e) (same-refl p)) (λ e. g (member e)))
+  where
+    either : (a c : Bool) → cond a true c ≡ a || c
+    either true c = refl
+    either false c = refl
+
+    member : anyOf (samePart p) (pathParts n w) ≡ true → p ∈ pathParts n w
+    member e = let s = any-at (samePart p) (pathParts n w) e in rw (same-eq p (s .0) (s .2)) (s .1)
+
+-- a part that goes with the path's generator
+source-more : (n : ℕ) (ws : List Path) (w : Path) (v : ℕ) (p : Part) → (v ≡ w .source → p ∈ pathParts n w) → (p ∈ pathParts n w → v ≡ w .source) → cond (eqb v (w .source)) true (onPaths n ws p) ≡ onPaths n (w ∷ ws) p
+source-more n ws w v p f g = on-more n ws w p (eqb v (w .source)) (λ e. f (eqb-true v (w .source) e)) (λ m. eq-eqb v (w .source) (g m))
+
+generator-more : (n : ℕ) (ws : List Path) (w : Path) (v : ℕ) → cond (eqb v (w .source)) true (onPaths n ws (generator v)) ≡ onPaths n (w ∷ ws) (generator v)
+generator-more n ws w v = source-more n ws w v (generator v) (λ e. rw e (source-on n w)) (generator-on n w v)
+
+bus-breaker-more : (n : ℕ) (ws : List Path) (w : Path) (v : ℕ) → Ends n w → cond (anyOf (eqb v) (arc n (lower w) (pathSteps n w))) true (onPaths n ws (busBreaker v)) ≡ onPaths n (w ∷ ws) (busBreaker v)
+bus-breaker-more n ws w v h = on-more n ws w (busBreaker v) (anyOf (eqb v) line) to from
+  where
+    line : List ℕ
+    line = arc n (lower w) (pathSteps n w)
+
+    to : anyOf (eqb v) line ≡ true → busBreaker v ∈ pathParts n w
+    to e =
+        let t = any-at (eqb v) line e in
+        let u = arc-at n (lower w) (pathSteps n w) (t .0) (lower-lt h) (t .1) in
+        rw (eqb-true v (t .0) (t .2)) (line-on n w (path-in (t .0) h (u .0) (u .1)))
+
+    from : busBreaker v ∈ pathParts n w → anyOf (eqb v) line ≡ true
+    from m =
+        let t = path-at v h (bus-breaker-on n w v m) in
+        any-in (eqb v) (arc-in n (lower w) (pathSteps n w) v (lower-lt h) (t .0) (t .1)) (eq-eqb v v refl)
+
+-- a generator's breaker is on the paths that the generator is on
+breaker-with : (n : ℕ) (ws : List Path) (g : ℕ) → onPaths n ws (generator g) ≡ onPaths n ws (generatorBreaker g)
+unfolding onPaths anyOf
+breaker-with n [] g = refl
+breaker-with n (w ∷ ws) g =
+    sym (generator-more n ws w g) ∙ rw (breaker-with n ws g) (source-more n ws w g (generatorBreaker g) (λ e. rw e (breaker-on n w)) (generator-breaker-on n w g))
+
+-- ---- serving a bus
+
+module _ (n : ℕ) (H : PartHealth) (b : ℕ) (hb : b < n) where
+  chosen-next : (o : Option Path) → plan n H b ≡ o → chosen n H (b + 1) ≡ addPath o (chosen n H b)
+  unfolding plan chosen
+  chosen-next o e = rw (add-one b, e)
+
+  last-next : lastChoice n H (b + 1) ≡ choiceOf n (plan n H b)
+  unfolding lastChoice
+  last-next = rw (add-one b)
+
+  -- the first path that passes by the owners is the plan's
+  pub served-choice : (O : ℕ → ℕ) → ((v : ℕ) → v < n → O v ≡ owner n H (chosen n H b) v) → plan n H b ≡ first (passes n H O) (paths n b)
+  unfolding plan
+  served-choice O is = walk-choice n H (chosen n H b) O b hb (safe-chosen n H b (omega arith)) is
+
+  -- no path
+  pub served-dark : plan n H b ≡ none → darkened (served n H b) ≡ served n H (b + 1)
+  unfolding served addPath choiceOf
+  served-dark e = rw (chosen-next none e, last-next, e)
+
+  -- path w
+  module _ (w : Path) (hn : n ≤ largest) (e : plan n H b ≡ some w) where
+    ends : Ends n w × (w .bus ≡ b)
+    unfolding plan
+    ends = chosen-ends n H (chosen n H b) b w hb e
+
+    lines : setAll true (arc n (lower w) (pathSteps n w)) (served n H b .closed) ≡ places (λ i. onPaths n (w ∷ chosen n H b) (busBreaker i))
+    unfolding served
+    lines =
+        set-all-places (λ i. onPaths n (chosen n H b) (busBreaker i)) true (arc n (lower w) (pathSteps n w)) (λ i m. omega (arith, arc-at n (lower w) (pathSteps n w) i (lower-lt (ends .0)) m .0))
+        ∙ places-ext _ _ (λ v l. bus-breaker-more n (chosen n H b) w v (ends .0))
+
+    runs : set (served n H b .on) (w .source) true ≡ places (λ g. onPaths n (w ∷ chosen n H b) (generator g))
+    unfolding served
+    runs =
+        set-places (λ g. onPaths n (chosen n H b) (generator g)) true (w .source) (omega (arith, ends .0 .source))
+        ∙ places-ext _ _ (λ v l. generator-more n (chosen n H b) w v)
+
+    -- where the walks from the path's bus go by the breakers l, which count the path
+    module _ (l : List Bool) (is : l ≡ places (λ i. onPaths n (w ∷ chosen n H b) (busBreaker i))) where
+      abbrev counted : ℕ → Bool
+      counted = closedBy (λ i. H (busBreaker i)) l
+
+      counted-is : (i : ℕ) → i < n → counted i ≡ countedClosed n H (w ∷ chosen n H b) i
+      unfolding countedClosed
+      counted-is i hi = rw (is, places-at (λ j. onPaths n (w ∷ chosen n H b) (busBreaker j)) i false (omega arith))
+
+      bus-lt : w .bus < n
+      bus-lt = ends .0 .bus
+
+      not-reached : (r : Bool) (v : ℕ) → n ≤ v → anyOf (eqb v) (reach n counted r (w .bus) n) ≡ false
+      not-reached r v hv = go (dec (anyOf (eqb v) (reach n counted r (w .bus) n)))
+        where
+          go : (anyOf (eqb v) (reach n counted r (w .bus) n) ≡ true) ⊎ (anyOf (eqb v) (reach n counted r (w .bus) n) ≡ false) → anyOf (eqb v) (reach n counted r (w .bus) n) ≡ false
+          go (inl q) = let t = any-at (eqb v) (reach n counted r (w .bus) n) q in absurd (omega (arith, eqb-true v (t .0) (t .2), reach-at n counted r n (w .bus) (t .0) bus-lt (t .1) .0))
+          go (inr q) = q
+
+      owns : setAll (suc (w .source)) (reach n counted false (w .bus) n) (setAll (suc (w .source)) (reach n counted true (w .bus) n) (served n H b .owners)) ≡ places (λ v. cond (ltb v n) (owner n H (w ∷ chosen n H b) v) 0)
+      unfolding served choose plan
+      owns =
+          rw (set-all-places old g (reach n counted true (w .bus) n) (inside true), set-all-places (λ v. cond (rises v) g (old v)) g (reach n counted false (w .bus) n) (inside false))
+          (places-ext _ _ (λ v h. each v (dec-lt v n)))
+        where
+          g : ℕ
+          g = suc (w .source)
+
+          old : ℕ → ℕ
+          old v = cond (ltb v n) (owner n H (chosen n H b) v) 0
+
+          rises : ℕ → Bool
+          rises v = anyOf (eqb v) (reach n counted true (w .bus) n)
+
+          inside : (r : Bool) (i : ℕ) → i ∈ reach n counted r (w .bus) n → i < largest
+          inside r i m = omega (arith, reach-at n counted r n (w .bus) i bus-lt m .0)
+
+          each : (v : ℕ) → (v < n) ⊎ (n ≤ v) → cond (anyOf (eqb v) (reach n counted false (w .bus) n)) g (cond (rises v) g (old v)) ≡ cond (ltb v n) (owner n H (w ∷ chosen n H b) v) 0
+          each v (inl hv) =
+              rw (lt-ltb v n hv)
+              (both g g (rises v) (anyOf (eqb v) (reach n counted false (w .bus) n)) (owner n H (chosen n H b) v)
+              ∙ rw (reach-connected n counted (w .bus) v bus-lt hv, connected-ext n counted (countedClosed n H (w ∷ chosen n H b)) (w .bus) v bus-lt hv counted-is)
+              (sym (owner-more (safe-chosen n H b (omega arith)) (ends .0) (first-at (permitted n H (chosen n H b)) (paths n b) w e .1) (w .bus) v (ends-in (ends .0) .1) hv)))
+          each v (inr hv) = rw (not-reached true v hv, not-reached false v hv, le-ltb v n hv)
+
+    pub served-path : taken n (λ i. H (busBreaker i)) (served n H b) w ≡ served n H (b + 1)
+    unfolding taken addPath served
+    served-path = rw (chosen-next (some w) e, last-next, e, ← lines, ← runs, ← owns (setAll true (arc n (lower w) (pathSteps n w)) (served n H b .closed)) lines)
+
+-- by the arrays of a search and its answer f
+module _ (n : ℕ) (h : Health) (b : ℕ) (usable : List Bool) (s : Progress) (f : Found) (hb : b < n) (hn : n ≤ largest)
+    (may : usable ≡ places (mayFeed (healthOf h))) (is : s ≡ served n (healthOf h) b) (finds : pathFound b f ≡ first (passesBy n usable (h .«bus_breakers») (s .owners)) (paths n b)) where
+  found-plan : plan n (healthOf h) b ≡ pathFound b f
+  unfolding served passes passesBy healthOf
+  found-plan =
+      served-choice n (healthOf h) b hb owners (λ v hv. places-at held v 0 (omega arith) ∙ rw (lt-ltb v n hv))
+      ∙ first-ext (passes n (healthOf h) owners) (passesBy n (places (mayFeed (healthOf h))) (h .«bus_breakers») (served n (healthOf h) b .owners)) (paths n b)
+      (λ w m. rw (places-at (mayFeed (healthOf h)) (w .source) false (omega (arith, tried-at n b w hb m .0))))
+      ∙ sym (rw (may, is) at finds)
+    where
+      held : ℕ → ℕ
+      held v = cond (ltb v n) (owner n (healthOf h) (chosen n (healthOf h) b) v) 0
+
+      owners : ℕ → ℕ
+      owners = at (served n (healthOf h) b .owners)
+
+  pub serve-dark : f ≡ found.Nothing → darkened s ≡ served n (healthOf h) (b + 1)
+  serve-dark e = rw is (served-dark n (healthOf h) b hb (rw e at found-plan))
+
+  module _ (g : ℕ) (r : Bool) (e : f ≡ found.Path g r) where
+    pub serve-source : g < n
+    unfolding plan
+    serve-source = chosen-ends n (healthOf h) (chosen n (healthOf h) b) b (pathTo b g r) hb (rw e at found-plan) .0 .source
+
+    pub serve-path : taken n (at (h .«bus_breakers»)) s (pathTo b g r) ≡ served n (healthOf h) (b + 1)
+    unfolding healthOf
+    serve-path = rw is (served-path n (healthOf h) b hb (pathTo b g r) hn (rw e at found-plan))
+
+-- ---- before the first bus and after the last
+
+blank : {A : Type 0} (f : ℕ → A) (d : A) → ((v : ℕ) → v < largest → f v ≡ d) → replicate largest d ≡ places f
+blank f d h = is-places f (replicate largest d) d (length-replicate largest d) (λ v l. getD-replicate largest v d d l ∙ sym (h v l))
+
+same : {A : Type 0} (t : Bool) (x : A) → cond t x x ≡ x
+same true x = refl
+same false x = refl
+
+module _ (n : ℕ) (H : PartHealth) where
+  pub served-none : record { last = record { choice = Dark }; owners = replicate largest 0; on = replicate largest false; closed = replicate largest false } ≡ served n H 0
+  unfolding served chosen lastChoice owner onPaths first anyOf
+  served-none =
+      rw (blank (λ v. cond (ltb v n) (owner n H [] v) 0) 0 (λ v l. same (ltb v n) 0), blank (λ p. false) false (λ v l. refl))
+
+  pub choices-none : replicate largest (record { choice = Dark }) ≡ choicesTo n H 0
+  unfolding choicesTo
+  choices-none = blank _ _ (λ v l. rw (le-ltb v 0 (omega arith)))
+
+  pub choices-more : (b : ℕ) → b < largest → set (choicesTo n H b) b (served n H (b + 1) .last) ≡ choicesTo n H (b + 1)
+  unfolding choicesTo served lastChoice
+  choices-more b h = set-places (chosenTo b) _ b h ∙ places-ext _ (chosenTo (b + 1)) (λ v l. each v (dec-eq v b) (dec-lt v b))
+    where
+      chosenTo : ℕ → ℕ → BusChoice
+      chosenTo k v = record { choice = cond (ltb v k) (choiceOf n (plan n H v)) Dark }
+
+      each : (v : ℕ) → (v ≡ b) ⊎ (v ≢ b) → (v < b) ⊎ (b ≤ v) → cond (eqb v b) (record { choice = lastChoice n H (b + 1) }) (chosenTo b v) ≡ chosenTo (b + 1) v
+      each v (inl e) t = rw (eq-eqb v b e, e, lt-ltb b (b + 1) (omega arith), add-one b)
+      each v (inr e) (inl t) = rw (ne-eqb v b e, lt-ltb v b t, lt-ltb v (b + 1) (omega arith))
+      each v (inr e) (inr t) = rw (ne-eqb v b e, le-ltb v b t, le-ltb v (b + 1) (omega arith))
+
+  pub choices-all : choicesTo n H n ≡ choices n H
+  unfolding choicesTo choices places
+  choices-all = refl
+
+  pub commands-all : record { generators = served n H n .on; «generator_breakers» = served n H n .on; «bus_breakers» = served n H n .closed } ≡ commandPlaces (commands n H)
+  unfolding served commandPlaces commands
+  commands-all = rw (places-ext (λ g. onPaths n (chosen n H n) (generatorBreaker g)) (λ g. onPaths n (chosen n H n) (generator g)) (λ g l. sym (breaker-with n (chosen n H n) g)))
