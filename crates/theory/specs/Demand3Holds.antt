@@ -293,7 +293,7 @@ choice-dark n (some w) e = absurd (lit (eqb (w .source) (w .bus)) (Bool·beq (w 
     lit false true e = let z : _≡_ {A = ℕ} 0 1 = cc in omega arith
     lit false false e = let z : _≡_ {A = ℕ} 0 1 = cc in omega arith
 
-choice-source : (n : ℕ) (w : Path) → choiceSource (choiceOf n (some w)) ≡ suc (w .source)
+pub choice-source : (n : ℕ) (w : Path) → choiceSource (choiceOf n (some w)) ≡ suc (w .source)
 unfolding choiceOf
 choice-source n w = by-cond (λ (c : Choice). choiceSource c ≡ suc (w .source)) (eqb (w .source) (w .bus)) (λ e. refl)
     (λ e. by-cond (λ (c : Choice). choiceSource c ≡ suc (w .source)) (Bool·beq (w .rising) (highRises n (w .source) (w .bus))) (λ e. refl) (λ e. refl))

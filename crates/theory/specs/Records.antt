@@ -17,7 +17,7 @@ use Rattle.model.specs.declared.Ring.{Ring}
 use Rattle.model.specs.Lists.{anyOf}
 use Rattle.model.specs.Values.{number, samePart, wordNumber, outcomeOf}
 use Rattle.model.specs.Plant.{PartHealth, PartCommands, smallest, largest, parts, fit, stuckOff, stuckOpen, stuckClosed, healthOfKind, generator, generatorBreaker, busBreaker}
-use Rattle.model.specs.Choosing.{commands}
+use Rattle.model.specs.Choosing.{commands, choices}
 use Rattle.model.specs.Sheet.{sheet}
 use Rattle.model.specs.Reports.{reported, allFit, places, healthOf, commandsOf, healthPlaces, commandPlaces, blankRing, withPlan}
 use Rattle.model.specs.Refusals.{sizeOutside, healthOutside, activeAbove, unplanned, badRecord, nextHealth, startRefusal, firstMet, tooShort, nextSheet}
@@ -28,7 +28,7 @@ use Rattle.model.specs.Laws.Parts.{InRing, at-index, parts-in, parts-at, same-e
 use Rattle.model.specs.Laws.Sheet.{sheet-fits}
 use Rattle.theory.specs.Locality.{Agree, commands-ext}
 use Rattle.theory.specs.Demand3.{afterWord, performed, World, isServed, wordRefusal, no-part, no-word, no-room}
-use Rattle.theory.specs.Steady.{Steady, served-decodes, steady-good}
+use Rattle.theory.specs.Steady.{not-commanded, Steady, served-decodes, steady-good}
 use Rattle.theory.specs.Demand3Holds.{step-outcome, step-served, step-refused, start-served, zero-served, step-ready, start-ready, Judged, met, fine, judged, refusal, start-steady, step-steady}
 
 -- what start and steps make, refused steps too
@@ -217,7 +217,7 @@ beq-eq true false e = contra refl e
 beq-eq false true e = contra refl e
 beq-eq false false e = refl
 
-module _ (ring : Ring) (arrays : Arrays ring) (good : badRecord ring ≡ false) where
+module _ (ring : Ring) (good : badRecord ring ≡ false) where
   abbrev H : PartHealth
   H = healthOf (ring .health)
 
@@ -255,40 +255,66 @@ module _ (ring : Ring) (arrays : Arrays ring) (good : badRecord ring ≡ false) 
   unfolding unplanned
   as-planned p i = beq-eq (C p) (commands N H p) (any-none (λ q. not (Bool·beq (C q) (commands N H q))) (conditions .3) (parts-in largest p i))
 
+  above-off : (p : Part) → InRing largest p → N < number p → C p ≡ false
+  above-off p i l = as-planned p i ∙ not-commanded N H p l
+
+  -- a plant whose health and orders are the record's
+  abbrev standing : World
+  standing = record { plant = record { health = H; last = C }; ring = ring; shown = choices N H }
+
+  pub good-steady : Steady N standing
+  good-steady = record {
+    size = refl;
+    health = λ p i. refl;
+    orders = λ p i. refl;
+    above = λ p i l. (above-fit p i l, above-off p i l);
+    kinds = of-kind;
+    planned = λ p i. as-planned p (i .0, omega (arith, i .1, bounds .1));
+    shown = refl;
+  }
+
+-- a step from a good record gives one
+pub step-good : (ring : Ring) → badRecord ring ≡ false → (r : Report) (buffer : List ℕ) → badRecord (stepReply ring r buffer .answer .ring) ≡ false
+unfolding Stands
+step-good ring good r buffer =
+    let t = step-stands (bounds ring good .0) (bounds ring good .1) (good-steady ring good) r buffer in
+    rw (t .5) at (steady-good (t .4) (t .2) (t .3))
+
+module _ (ring : Ring) (arrays : Arrays ring) (good : badRecord ring ≡ false) where
   -- the health of all parts of the ring is the record's
   abbrev K : PartHealth
-  K = partial N (bounds .0) (bounds .1) H of-kind (parts N)
+  K = partial (ring .n) ((bounds ring good) .0) ((bounds ring good) .1) (healthOf (ring .health)) (of-kind ring good) (parts (ring .n))
 
-  same-health : (p : Part) → InRing largest p → H p ≡ K p
+  same-health : (p : Part) → InRing largest p → (healthOf (ring .health)) p ≡ K p
   unfolding partial
-  same-health p i = go (dec-lt N (number p)) (dec (anyOf (samePart p) (parts N)))
+  same-health p i = go (dec-lt (ring .n) (number p)) (dec (anyOf (samePart p) (parts (ring .n))))
     where
-      go : (N < number p) ⊎ (number p ≤ N) → (anyOf (samePart p) (parts N) ≡ true) ⊎ (anyOf (samePart p) (parts N) ≡ false) → H p ≡ cond (anyOf (samePart p) (parts N)) (H p) 0
+      go : ((ring .n) < number p) ⊎ (number p ≤ (ring .n)) → (anyOf (samePart p) (parts (ring .n)) ≡ true) ⊎ (anyOf (samePart p) (parts (ring .n)) ≡ false) → (healthOf (ring .health)) p ≡ cond (anyOf (samePart p) (parts (ring .n))) ((healthOf (ring .health)) p) 0
       go l (inl a) = rw a
-      go (inl l) (inr a) = rw a (above-fit p i l)
-      go (inr l) (inr a) = contra (any-in (samePart p) (parts-in N p (i .0, l)) (same-refl p)) a
+      go (inl l) (inr a) = rw a ((above-fit ring good) p i l)
+      go (inr l) (inr a) = contra (any-in (samePart p) (parts-in (ring .n) p (i .0, l)) (same-refl p)) a
 
-  same-commands : (p : Part) → InRing largest p → C p ≡ commands N K p
-  same-commands p i = as-planned p i ∙ commands-ext N H K (λ q j. same-health q (j .0, omega (arith, j .1, bounds .1))) p
+  same-commands : (p : Part) → InRing largest p → (commandsOf (ring .commands)) p ≡ commands (ring .n) K p
+  same-commands p i = (as-planned ring good) p i ∙ commands-ext (ring .n) (healthOf (ring .health)) K (λ q j. same-health q (j .0, omega (arith, j .1, (bounds ring good) .1))) p
 
-  is-ring : ring ≡ ringFor N K
+  is-ring : ring ≡ ringFor (ring .n) K
   unfolding ringFor healthPlaces commandPlaces healthOf commandsOf
   is-ring = λ i. record {
-    n = N;
+    n = (ring .n);
     health = record {
       generators = is-places (λ j. K (generator j)) (ring .health .generators) 0 (arrays .generators) (λ j l. same-health (generator j) (at-index largest j l)) i;
       «generator_breakers» = is-places (λ j. K (generatorBreaker j)) (ring .health .«generator_breakers») 0 (arrays .generator-breakers) (λ j l. same-health (generatorBreaker j) (at-index largest j l)) i;
       «bus_breakers» = is-places (λ j. K (busBreaker j)) (ring .health .«bus_breakers») 0 (arrays .bus-breakers) (λ j l. same-health (busBreaker j) (at-index largest j l)) i;
     };
     commands = record {
-      generators = is-places (λ j. commands N K (generator j)) (ring .commands .generators) false (arrays .generator-commands) (λ j l. same-commands (generator j) (at-index largest j l)) i;
-      «generator_breakers» = is-places (λ j. commands N K (generatorBreaker j)) (ring .commands .«generator_breakers») false (arrays .generator-breaker-commands) (λ j l. same-commands (generatorBreaker j) (at-index largest j l)) i;
-      «bus_breakers» = is-places (λ j. commands N K (busBreaker j)) (ring .commands .«bus_breakers») false (arrays .bus-breaker-commands) (λ j l. same-commands (busBreaker j) (at-index largest j l)) i;
+      generators = is-places (λ j. commands (ring .n) K (generator j)) (ring .commands .generators) false (arrays .generator-commands) (λ j l. same-commands (generator j) (at-index largest j l)) i;
+      «generator_breakers» = is-places (λ j. commands (ring .n) K (generatorBreaker j)) (ring .commands .«generator_breakers») false (arrays .generator-breaker-commands) (λ j l. same-commands (generatorBreaker j) (at-index largest j l)) i;
+      «bus_breakers» = is-places (λ j. commands (ring .n) K (busBreaker j)) (ring .commands .«bus_breakers») false (arrays .bus-breaker-commands) (λ j l. same-commands (busBreaker j) (at-index largest j l)) i;
     };
   }
 
   good-made : Made ring
-  good-made = rw is-ring (makes N (bounds .0) (bounds .1) H of-kind (parts N) (parts-at N))
+  good-made = rw is-ring (makes (ring .n) ((bounds ring good) .0) ((bounds ring good) .1) (healthOf (ring .health)) (of-kind ring good) (parts (ring .n)) (parts-at (ring .n)))
 
 -- "record not one that start and steps make"
 pub made-exactly : (ring : Ring) → Arrays ring → badRecord ring ≡ false ↔ Made ring
