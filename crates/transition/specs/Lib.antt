@@ -1,0 +1,4 @@
+pub mod Laws
+pub mod Words
+pub mod Advance
+pub mod Replies
