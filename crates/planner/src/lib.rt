@@ -22,7 +22,14 @@ use model::Choice;
 use model::Commands;
 use model::Health;
 
-// What a plan gives.
+// The words of a health: "0 fit again, 1 stuck off (generators), 2 stuck open, 3 stuck closed (breakers)".
+const FIT: u8 = 0;
+
+const STUCK_OPEN: u8 = 2;
+
+const STUCK_CLOSED: u8 = 3;
+
+// What a plan gives: each bus's choice and each part's command.
 pub struct Planned {
     pub choices: [BusChoice; 20],
     pub commands: Commands,
@@ -36,17 +43,17 @@ enum Found {
 
 // The bus breakers of a path: the bus from which they rise, and how many there are.
 struct Span {
-    pub from: usize,
-    pub steps: usize,
+    from: usize,
+    steps: usize,
 }
 
 // What is kept from bus to bus while they are served: the choice of the last, the owner of each bus (the number of the
 // chosen generator that it is connected to, or 0), the generators on chosen paths, and the bus breakers on them.
 struct Progress {
-    pub last: BusChoice,
-    pub owners: [u8; 20],
-    pub on: [bool; 20],
-    pub closed: [bool; 20],
+    last: BusChoice,
+    owners: [u8; 20],
+    on: [bool; 20],
+    closed: [bool; 20],
 }
 
 // The number of the generator at an index.
@@ -57,6 +64,7 @@ fn number_of(g: usize) -> u8
     g as u8 + 1
 }
 
+// The bus after bus k, and the one before it: "BBn joins Bn and B1".
 fn next(n: usize, k: usize) -> usize
     requires { ⌜ (k < n) × (n ≤ 20) ⌝ }
     ensures { λ r. ⌜ r ≡ busAfter n k ⌝ }
@@ -80,11 +88,12 @@ fn up(n: usize, a: usize, b: usize) -> usize
     if a <= b { b - a } else { b + n - a }
 }
 
-// The generator at place r of the source priority of bus b.
+// The generator at place r of the source priority of bus b: the one place where that priority is read.
 fn source(n: usize, b: usize, r: usize) -> usize
     requires { ⌜ (r < n) × (b < n) × (3 ≤ n) × (n ≤ 20) ⌝ }
     ensures { λ g. ⌜ (g ≡ getD (sources n b) r 0) × (g < n) ⌝ }
 {
+    // G1 and G2, and for all buses but B1 the other way round
     if r < 2 {
         if b == 0 {
             return r;
@@ -94,7 +103,7 @@ fn source(n: usize, b: usize, r: usize) -> usize
     if b < 2 {
         return r;
     }
-    // From B3 on the others come upward without the bus's own generator, which is the last.
+    // from B3 on upward without the bus's own generator, which is the last
     if r < b {
         return r;
     }
@@ -104,6 +113,8 @@ fn source(n: usize, b: usize, r: usize) -> usize
     b
 }
 
+// Whether the high path from generator g to bus b runs through rising bus numbers: "The shorter is high, the other low. Of
+// two equally long the one through rising bus numbers (B1 after Bn) is high".
 fn high_rises(n: usize, g: usize, b: usize) -> bool
     requires { ⌜ (g < n) × (b < n) × (n ≤ 20) ⌝ }
     ensures { λ r. ⌜ r ≡ highRises n g b ⌝ }
@@ -111,7 +122,8 @@ fn high_rises(n: usize, g: usize, b: usize) -> bool
     up(n, g, b) <= up(n, b, g)
 }
 
-// "From Gk, bus Bk has one way, its own", "From another generator there are two ways round the ring".
+// The number of paths from generator g to bus b: "From Gk, bus Bk has one way, its own", "From another generator there are
+// two ways round the ring".
 fn path_count(b: usize, g: usize) -> usize
     ensures { λ r. ⌜ r ≡ pathCount b g ⌝ }
 {
@@ -168,7 +180,7 @@ fn clear(
     let mut k = from;
     let mut left = steps;
     while left > 0 {
-        if breakers[k] == 2 {
+        if breakers[k] == STUCK_OPEN {
             return false;
         }
         if !free(owners[k], number) {
@@ -180,7 +192,7 @@ fn clear(
     free(owners[k], number)
 }
 
-// Whether a path of a generator that may feed is permitted.
+// Whether a path of a generator that may feed is permitted: the walk along it is clear.
 fn permitted(
     n: usize,
     breakers: &[u8; 20],
@@ -210,7 +222,8 @@ fn candidate(usable: &[bool; 20], owners: &[u8; 20], b: usize, g: usize) -> bool
     false
 }
 
-// "The search over generators and their two ways ends at the first permitted way": the first permitted path of bus b.
+// "The search over generators and their two ways ends at the first permitted way": the sources of bus b by priority, and of
+// each the high path before the low one. A bus's own generator has one path.
 fn search(n: usize, usable: &[bool; 20], breakers: &[u8; 20], owners: &[u8; 20], b: usize) -> Found
     requires { ⌜ (b < n) × (3 ≤ n) × (n ≤ 20) ⌝ }
     ensures { λ r. ⌜ pathFound b r ≡ first (passesBy n (now (usable .entry)) (now (breakers .entry)) (now (owners .entry))) (paths n b) ⌝ }
@@ -233,7 +246,7 @@ fn search(n: usize, usable: &[bool; 20], breakers: &[u8; 20], owners: &[u8; 20],
     found
 }
 
-// The bus breakers on chosen paths, with those of a span.
+// The bus breakers on chosen paths, with those of one path more.
 fn close(n: usize, closed: [bool; 20], from: usize, steps: usize) -> [bool; 20]
     requires { ⌜ (from < n) × (n ≤ 20) ⌝ }
     ensures { λ r. ⌜ r ≡ setAll true (arc n from steps) closed ⌝ }
@@ -249,11 +262,11 @@ fn close(n: usize, closed: [bool; 20], from: usize, steps: usize) -> [bool; 20]
     c
 }
 
-// Whether a bus breaker counts as closed.
+// Whether a bus breaker counts as closed: it is stuck closed, or on a chosen path.
 fn counted_closed(breaker: u8, chosen: bool) -> bool
     ensures { λ r. ⌜ r ≡ stuckClosed breaker || chosen ⌝ }
 {
-    if breaker == 3 {
+    if breaker == STUCK_CLOSED {
         return true;
     }
     chosen
@@ -337,10 +350,10 @@ fn take(n: usize, breakers: [u8; 20], s: Progress, b: usize, g: usize, rising: b
     let above = spread(n, &breakers, &closed, owners, b, number, true);
     let around = spread(n, &breakers, &closed, above, b, number, false);
     Progress {
-        last: last,
+        last,
         owners: around,
-        on: on,
-        closed: closed,
+        on,
+        closed,
     }
 }
 
@@ -370,12 +383,12 @@ fn serve(n: usize, health: Health, usable: [bool; 20], s: Progress, b: usize) ->
     }
 }
 
-// Whether a generator may feed: it is fit, and its breaker is not stuck open.
+// Whether a generator may feed: it is fit, and its breaker is not stuck open. The one place where a generator is judged.
 fn may_feed(generator: u8, breaker: u8) -> bool
     ensures { λ r. ⌜ r ≡ fit generator && not (stuckOpen breaker) ⌝ }
 {
-    if generator == 0 {
-        return breaker != 2;
+    if generator == FIT {
+        return breaker != STUCK_OPEN;
     }
     false
 }
@@ -393,7 +406,8 @@ fn usable_generators(health: Health) -> [bool; 20]
     usable
 }
 
-// "Buses are served in number order.": the plan of a ring of n from 3 to 20.
+// The plan of a ring: "Buses are served in number order." Buses above n are dark, and parts above n off or open.
+// An inner call: it requires that n is from 3 to 20.
 pub fn plan(n: u8, health: Health) -> Planned
     requires { ⌜ (3 ≤ n) × (n ≤ 20) ⌝ }
     ensures { λ r. ⌜ (r .choices ≡ choices n (healthOf health)) × (r .commands ≡ commandPlaces (commands n (healthOf health))) ⌝ }
@@ -415,15 +429,15 @@ pub fn plan(n: u8, health: Health) -> Planned
         let last = s.last;
         choices[b] = last;
     }
-    let on = s.on;
-    let gates = s.on;
-    let closed = s.closed;
+    let generators = s.on;
+    let generator_breakers = s.on;
+    let bus_breakers = s.closed;
     Planned {
-        choices: choices,
+        choices,
         commands: Commands {
-            generators: on,
-            generator_breakers: gates,
-            bus_breakers: closed,
+            generators,
+            generator_breakers,
+            bus_breakers,
         },
     }
 }

@@ -2,7 +2,8 @@
 use Rattle.planner.proofs.Auto.{auto}
 use Rattle.planner.proofs.search.Statement.{statement}
 use Rattle.planner.proofs.search.Tie as tie
-use mathlib.Core.Path.{_≡_, refl, sym, _∙_}
+use mathlib.Core.Path.{_≡_, refl, sym, _∙_, ap}
+use mathlib.Core.Option.{some}
 use mathlib.Core.Logic.{⊎-elim}
 use mathlib.Core.Bool.{Bool}
 use Prim.Native.Nat.{_≤_, _<_, _-_}
@@ -94,7 +95,7 @@ returns-2 c =
     let d = c .before in
     let q = d .before .before .before in
     let a = here d .before .before .before .args in
-    rw (rising d) (sym (q .loop .inv .2 ∙ left-hit (a .n) (a .b) (tests (here d)) (here d .before .before .sources .r) (here d .source .result) (q .loop .p) (short d) (walked d ∙ c .if2 .taken)))
+    ap (λ t. some (pathTo (a .b) (here d .source .result) t)) (rising d) ∙ sym (q .loop .inv .2 ∙ left-hit (a .n) (a .b) (tests (here d)) (here d .before .before .sources .r) (here d .source .result) (q .loop .p) (short d) (walked d ∙ c .if2 .taken))
 
 pub search-spec : {M : Type 1} → statement M
 search-spec =
