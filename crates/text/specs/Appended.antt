@@ -1,0 +1,45 @@
+-- Bytes stored in a list one after the other, from an index on.
+use mathlib.Core.Path.{_≡_, refl, _∙_}
+use mathlib.Core.List.{List, [], _∷_, _++_}
+use Prim.Native.Nat.{ℕ, suc, _+_, _≤_}
+use native.Mathlib.Nat.{add-suc, suc-add, add-zero, zero-add}
+use native.Mathlib.Omega.{arith}
+use lib.ListN.{length, set, length-append}
+use lib.Seq.{sets, sets-eq}
+use Rattle.model.specs.Sheet.{written}
+
+-- after is before with the bytes stored from index i on, and j is the index behind them
+pub record Appended (bytes before : List ℕ) (i : ℕ) (after : List ℕ) (j : ℕ) : Type 0 where
+  pub stored : after ≡ sets before i bytes
+  pub end : j ≡ i + length bytes
+
+pub appended-none : (l : List ℕ) (i : ℕ) → Appended [] l i l i
+appended-none l i = record { stored = refl; end = omega arith }
+
+sets-append : (xs ys l : List ℕ) (i : ℕ) → sets (sets l i xs) (i + length xs) ys ≡ sets l i (xs ++ ys)
+sets-append [] ys l i = rw add-zero
+sets-append (x ∷ xs) ys l i = rw (add-suc, ← suc-add) (sets-append xs ys (set l i x) (suc i))
+
+-- more bytes behind them
+pub appended-more : {xs ys l l′ l″ : List ℕ} {i j k : ℕ} → Appended xs l i l′ j → Appended ys l′ j l″ k → Appended (xs ++ ys) l i l″ k
+appended-more {xs} {ys} {l} {i = i} a b =
+    record {
+      stored = b .stored ∙ rw (a .stored, a .end) (sets-append xs ys l i);
+      end = omega (arith, a .end, b .end, length-append xs ys);
+    }
+
+-- one byte behind them
+pub appended-one : {xs zs l l′ : List ℕ} {i j k : ℕ} (x : ℕ) → zs ≡ xs ++ (x ∷ []) → k ≡ j + 1 → Appended xs l i l′ j → Appended zs l i (set l′ j x) k
+appended-one x e h a = rw (e, h) (appended-more a (record { stored = refl; end = refl }))
+
+-- one byte, and two
+pub appended-byte : (x : ℕ) (l : List ℕ) (i : ℕ) → Appended (x ∷ []) l i (set l i x) (i + 1)
+appended-byte x l i = record { stored = refl; end = refl }
+
+pub appended-two : (x y : ℕ) (l : List ℕ) (i : ℕ) → Appended (x ∷ y ∷ []) l i (set (set l i x) (i + 1) y) (i + 2)
+appended-two x y l i = appended-one y refl (omega arith) (appended-byte x l i)
+
+-- all that was stored from the front on
+pub appended-all : {xs l l′ : List ℕ} {j : ℕ} → Appended xs l 0 l′ j → length xs ≤ length l → (l′ ≡ written xs l) × (j ≡ length xs)
+unfolding written
+appended-all {xs} {l} a h = (a .stored ∙ sets-eq xs l 0 (omega arith) ∙ rw zero-add, omega (arith, a .end))
