@@ -1,9 +1,7 @@
 -- The conditions of refusal 9.
-use mathlib.Core.Path.{_≡_, refl, sym, _∙_}
+use mathlib.Core.Path.{_≡_, refl, sym}
 use mathlib.Core.Bool.{Bool, true, false, not, _&&_, _||_, Bool·beq, or-false}
-use mathlib.Core.Logic.{_⊎_, inl, inr}
-use Prim.Native.Nat.{ℕ, _≤_, _<_}
-use native.Mathlib.Omega.{arith}
+use Prim.Native.Nat.{ℕ, _<_}
 use lib.Dec.{ltb}
 use borrow.Author.Tests.{lt-ltb, ltb-true}
 use Rattle.model.specs.declared.Part.{Part}
@@ -15,12 +13,11 @@ use Rattle.model.specs.Plant.{PartHealth, PartCommands, largest, parts, fit}
 use Rattle.model.specs.Choosing.{commands}
 use Rattle.model.specs.Reports.{healthOf, commandsOf, commandPlaces}
 use Rattle.model.specs.Refusals.{sizeOutside, healthOutside, activeAbove, unplanned, badRecord}
-use Rattle.model.specs.Laws.Tests.{dec-lt}
 use Rattle.model.specs.Laws.Lists.{any-ext}
 use Rattle.model.specs.Laws.Parts.{InRing, parts-at, command-places}
 use Rattle.control.specs.Laws.{some-part, no-part}
 
--- a part that stands above a ring is not quiet
+-- "not fit or not ordered off or open"
 abbrev pub active : PartHealth → PartCommands → Part → Bool
 active H C p = not (fit (H p)) || C p
 

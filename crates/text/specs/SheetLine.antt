@@ -36,7 +36,7 @@ closingSize bytes = getD bytes 1 0
 abbrev pub phaseAt : List ℕ → ℕ → ℕ → ℕ → List ℕ
 phaseAt bytes k from from′ = ascii " / " ++ phaseOf (stretch from (from + k) bytes) (stretch from′ (from′ + k) bytes)
 
--- "its sizes first ..; the part codes of both waves, then the orders"
+-- "its sizes first .., then two parallel arrays: the part codes of both waves, then the orders"
 abbrev pub openingText : List ℕ → List ℕ
 openingText bytes = let a = openingSize bytes in let b = closingSize bytes in phaseAt bytes a 2 (2 + a + b)
 

@@ -1,22 +1,27 @@
--- Laws of sizes, and of the arrays of a ring state: an array of 20 places is what it holds at each.
+-- Laws of outcomes, of sizes, and of the arrays of a ring state: an array of 20 places is what it holds at each.
 use mathlib.Core.Path.{_≡_, refl, sym}
 use mathlib.Core.Bool.{false}
 use mathlib.Core.List.{List}
-use Prim.Native.Nat.{ℕ, _≤_, _<_}
+use Prim.Native.Nat.{ℕ, _≤_}
 use native.Mathlib.Omega.{arith}
 use lib.Dec.{ltb}
 use lib.ListN.{length, getD}
 use borrow.Author.Tests.{ltb-false}
 use Rattle.model.specs.declared.Health.{Health}
-use Rattle.model.specs.declared.Part.{Part}
+use Rattle.model.specs.declared.Outcome.{Outcome}
+use Rattle.model.specs.declared.Outcome.the-variants.{Served, Refused}
 use Rattle.model.specs.Plant.{PartHealth, PartCommands, smallest, largest}
 use Rattle.model.specs.Choosing.{choices, commands}
 use Rattle.model.specs.Sheet.{sheet}
 use Rattle.model.specs.Reports.{places, healthOf, healthPlaces, commandsOf, commandPlaces}
 use Rattle.model.specs.Refusals.{sizeOutside}
 use Rattle.model.specs.Laws.Tests.{or-none}
-use Rattle.model.specs.Laws.Parts.{InRing, is-places, places-length, health-places, command-places}
+use Rattle.model.specs.Laws.Parts.{is-places, places-length, health-places, command-places}
 use Rattle.theory.specs.Locality.{Agree, choices-ext, commands-ext, sheet-ext}
+
+-- no outcome is both served and refused
+pub served-refused : {A : Type 0} {k : ℕ} {o : Outcome} → o ≡ Served → o ≡ Refused k → A
+served-refused {k = k} {o} p q = let z : _≡_ {A = ℕ} 0 1 = cc in absurd (omega arith)
 
 -- a size that is not refused
 pub size-bounds : (n : ℕ) → sizeOutside n ≡ false → (smallest ≤ n) × (n ≤ largest)

@@ -6,8 +6,7 @@ ghost use Rattle.model.specs.Reports.{places, healthOf, healthPlaces, reported,
 ghost use Rattle.model.specs.Refusals.{badRecord};
 ghost use Rattle.model.specs.Answers.{startReply, stepReply};
 ghost use Rattle.transition.specs.Words.{withValue};
-ghost use Rattle.transition.specs.Advance.{advanceReply};
-ghost use Rattle.transition.specs.Advance.{refusedAnswer};
+ghost use Rattle.transition.specs.Advance.{refusedAnswer, advanceReply};
 use model::BusChoice;
 use model::Choice;
 use model::Commands;

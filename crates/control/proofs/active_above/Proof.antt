@@ -1,4 +1,4 @@
--- `control::active_above` meets its contract. The loop's invariant: each part of the places passed above n is quiet.
+-- `control::active_above` meets its contract. The loop's invariant: each part of the places passed above n is fit, and off or open.
 use mathlib.Core.Path.{_≡_, sym, _∙_}
 use mathlib.Core.Bool.{false}
 use Prim.Native.Nat.{_≤_, _<_, _-_}

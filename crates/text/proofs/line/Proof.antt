@@ -66,4 +66,3 @@ line-spec =
     (λ c. let f = c .before .before in omega (arith, stored f .end, fits f, sized f))
     (λ c. let f = c .before .before in omega (arith, stored f .end, fits f, start (first (second f)) .good))
     (λ c. simp length-set (sized (c .before .before))) (λ c. let f = c .before .before in appended-all (stored f) (fits f)))
--- x

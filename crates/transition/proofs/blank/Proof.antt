@@ -2,10 +2,9 @@
 use mathlib.Core.Path.{refl}
 use Rattle.model.specs.Lists.{below}
 use Rattle.model.specs.Reports.{places, healthPlaces, commandPlaces, blankRing}
-use Rattle.model.specs.Answers.{allDark}
 use Rattle.transition.proofs.blank.Statement.{statement}
 use Rattle.transition.proofs.blank.Tie as tie
 
 pub blank-spec : {M : Type 1} → statement M
-unfolding below places healthPlaces commandPlaces blankRing allDark
+unfolding below places healthPlaces commandPlaces blankRing
 blank-spec = tie.close (tie.spec (λ c. refl))

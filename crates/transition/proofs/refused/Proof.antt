@@ -1,11 +1,11 @@
--- `transition::refused` meets its contract: both sides compute to arrays of 20 places.
+-- `transition::refused` meets its contract: both sides compute to 20 dark places.
 use mathlib.Core.Path.{refl}
 use Rattle.model.specs.Lists.{below}
-use Rattle.model.specs.Reports.{places, healthPlaces, commandPlaces, blankRing}
+use Rattle.model.specs.Reports.{places}
 use Rattle.model.specs.Answers.{allDark}
 use Rattle.transition.proofs.refused.Statement.{statement}
 use Rattle.transition.proofs.refused.Tie as tie
 
 pub refused-spec : {M : Type 1} → statement M
-unfolding below places healthPlaces commandPlaces blankRing allDark
+unfolding below places allDark
 refused-spec = tie.close (tie.spec (λ c. refl))
