@@ -9,20 +9,24 @@ use native.Mathlib.Omega.{arith}
 use lib.Dec.{eqb, ltb}
 use lib.ListN.{length, getD, take, drop, length-take, length-drop}
 use lib.Seq.{drop-cons, drop-length}
-use borrow.Author.Tests.{eqb-true, lt-ltb, not-false}
+use borrow.Author.Tests.{eqb-true, ltb-false, not-false}
 use Rattle.model.specs.declared.Part.{Part}
 use Rattle.model.specs.declared.Word.{Word}
 use Rattle.model.specs.declared.Report.{Report}
 use Rattle.model.specs.declared.Ring.{Ring}
 use Rattle.model.specs.declared.ReportAnswer.{ReportAnswer}
 use Rattle.model.specs.declared.ReportAnswer.the-variants.{Read, Refused, Missing}
+use Rattle.model.specs.declared.FileAnswer.{FileAnswer}
+use Rattle.model.specs.declared.FileAnswer.the-variants as file
 use Rattle.model.specs.Values.{reportValues}
+use Rattle.model.specs.Plant.{smallest, largest}
 use Rattle.model.specs.Reports.{partNamed, wordNamed, fileSize, fileCount, fileCodes, fileWords, blankRing, withPlan}
 use Rattle.model.specs.Refusals.{firstMet, orElse, sizeOutside, reportConditions, reportOf, reportAnswer, reportsRefusal, fileRefusal, nextHealth}
-use Rattle.model.specs.Answers.{reportAt}
+use Rattle.model.specs.Answers.{reportAt, fileAnswer}
 use Rattle.model.specs.Text.{header, transitionLine, reportLines, withReport, reportsOf, servedText, printedRun}
 use Rattle.model.specs.Laws.Tests.{dec}
 use Rattle.reports.specs.Reports.{within-both}
+use Rattle.transition.specs.Laws.{size-bounds}
 use Rattle.run.specs.Lines.{startLine, startRing, lineOf, ringOf, reportLine, nextRing, linesFrom}
 
 -- ---- the reports of a served file are all read
@@ -87,30 +91,50 @@ module _ (n : ℕ) (cs ws : List ℕ) (same : length cs ≡ length ws) (fine : r
 
 -- ---- the whole run
 
--- what a file that is not refused is
-file-passed : (f : List ℕ) → fileRefusal f ≡ 0 → (length f ≡ 3 + 2 * fileCount f) × (reportsRefusal (fileSize f) (fileCodes f) (fileWords f) ≡ 0)
+-- a first condition met by nothing
+or-zero : (t : Bool) (k l : ℕ) → 0 < k → cond t k l ≡ 0 → (t ≡ false) × (l ≡ 0)
+or-zero true k l h e = absurd (omega (arith, e))
+or-zero false k l h e = (refl, e)
+
+-- what a file that is not refused is: 2, 3 and 4 are not met, and no report is refused
+file-passed : (f : List ℕ) → fileRefusal f ≡ 0
+    → (sizeOutside (fileSize f) ≡ false) × (ltb 4096 (fileCount f) ≡ false) × (length f ≡ 3 + 2 * fileCount f) × (reportsRefusal (fileSize f) (fileCodes f) (fileWords f) ≡ 0)
 unfolding fileRefusal firstMet
 file-passed f e =
     let t = or-else first (reportsRefusal (fileSize f) (fileCodes f) (fileWords f)) e in
-    (whole (ltb (length f) 3) (sizeOutside (fileSize f)) (ltb 4096 (fileCount f)) (dec (eqb (length f) (3 + 2 * fileCount f))) (t .0), t .1)
+    let one = or-zero (ltb (length f) 3) 1 _ (omega arith) (t .0) in
+    let two = or-zero (sizeOutside (fileSize f)) 2 _ (omega arith) (one .1) in
+    let three = or-zero (ltb 4096 (fileCount f)) 3 _ (omega arith) (two .1) in
+    let four = or-zero (not (eqb (length f) (3 + 2 * fileCount f))) 4 0 (omega arith) (three .1) in
+    (two .0, three .0, eqb-true (length f) (3 + 2 * fileCount f) (not-false _ (four .0)), t .1)
   where
     first : ℕ
     first = firstMet ((1, ltb (length f) 3) ∷ (2, sizeOutside (fileSize f)) ∷ (3, ltb 4096 (fileCount f)) ∷ (4, not (eqb (length f) (3 + 2 * fileCount f))) ∷ [])
-
-    whole : (one two three : Bool) → (eqb (length f) (3 + 2 * fileCount f) ≡ true) ⊎ (eqb (length f) (3 + 2 * fileCount f) ≡ false)
-        → _≡_ {A = ℕ} (cond one 1 (cond two 2 (cond three 3 (cond (not (eqb (length f) (3 + 2 * fileCount f))) 4 0)))) 0 → length f ≡ 3 + 2 * fileCount f
-    whole true two three t e = absurd (omega arith)
-    whole false true three t e = absurd (omega arith)
-    whole false false true t e = absurd (omega arith)
-    whole false false false (inl t) e = eqb-true (length f) (3 + 2 * fileCount f) t
-    whole false false false (inr t) e = let z : _≡_ {A = ℕ} 4 0 = rw t at e in absurd (omega arith)
 
 -- the printed run of a served file: its header, line 0, and a line for each of its reports
 pub run-lines : (f : List ℕ) → fileRefusal f ≡ 0 → printedRun f ≡ header (fileSize f) (fileCount f) ++ (startLine (fileSize f) ++ linesFrom (startRing (fileSize f)) (fileCodes f) (fileWords f) 0 (fileCount f))
 unfolding printedRun servedText withPlan blankRing
 run-lines f e =
     let t = file-passed f e in
-    let c : length (fileCodes f) ≡ fileCount f = omega (arith, length-take (fileCount f) (drop 3 f), length-drop 3 f) in
-    let w : length (fileWords f) ≡ fileCount f = omega (arith, length-drop (3 + fileCount f) f) in
+    let c : length (fileCodes f) ≡ fileCount f = omega (arith, t .2, length-take (fileCount f) (drop 3 f), length-drop 3 f) in
+    let w : length (fileWords f) ≡ fileCount f = omega (arith, t .2, length-drop (3 + fileCount f) f) in
     rw e (ap (λ l. header (fileSize f) (fileCount f) ++ (startLine (fileSize f) ++ l))
-    (lines-are (fileSize f) (fileCodes f) (fileWords f) (omega arith) (t .1) (fileCount f) 0 (startRing (fileSize f)) refl (omega arith)))
+    (lines-are (fileSize f) (fileCodes f) (fileWords f) (omega arith) (t .3) (fileCount f) 0 (startRing (fileSize f)) refl (omega arith)))
+
+-- the values of a served file
+pub file-served : (f : List ℕ) (n m : ℕ) → fileAnswer f ≡ file.Served n m → (smallest ≤ n) × (n ≤ largest) × (m ≤ 4096) × (length f ≡ 3 + 2 * m)
+unfolding fileAnswer
+file-served f n m e = go (dec (eqb (fileRefusal f) 0))
+  where
+    go : (eqb (fileRefusal f) 0 ≡ true) ⊎ (eqb (fileRefusal f) 0 ≡ false) → (smallest ≤ n) × (n ≤ largest) × (m ≤ 4096) × (length f ≡ 3 + 2 * m)
+    go (inl t) =
+        let s : file.Served (fileSize f) (fileCount f) ≡ file.Served n m = rw t at e in
+        let a : fileSize f ≡ n = cc in
+        let b : fileCount f ≡ m = cc in
+        let p = file-passed f (eqb-true (fileRefusal f) 0 t) in
+        let size = size-bounds (fileSize f) (p .0) in
+        (rw a at (size .0), rw a at (size .1), omega (arith, b, ltb-false 4096 (fileCount f) (p .1)), omega (arith, b, p .2))
+    go (inr t) =
+        let s : file.Refused (fileRefusal f) ≡ file.Served n m = rw t at e in
+        let x : _≡_ {A = ℕ} 0 1 = cc in
+        absurd (omega arith)
