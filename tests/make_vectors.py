@@ -3,8 +3,8 @@
 
     tests/make_vectors.py            writes crates/vectors*/stdin and crates/vectors*/stdout
 
-runs    fault files and their printed runs: for each 2 bytes length of the file, 4 bytes length of the text, both low byte
-        first, the file, the text.
+runs    fault files and their printed runs: for each 2 bytes length of the file, low byte first, the file, the text, and a
+        byte 0.
 plant   reckonings: n, 60 healths, 60 commands; then the number of the outcome and for each of 20 buses three bytes: 0 dark,
         1 fed, 2 a clash, and the generators named.
 step    starts and steps with damaged records and short buffers: n (and then 255 for a start), 60 healths, 60 commands, the
@@ -70,7 +70,7 @@ def random_files(rng, count):
 def runs(rng):
     for data in itertools.chain(examples(), single_and_double_faults(), long_files(rng), random_files(rng, 250)):
         text = rs.printed_run(data)
-        yield len(data).to_bytes(2, "little") + len(text).to_bytes(4, "little") + data + text
+        yield len(data).to_bytes(2, "little") + data + text + b"\0"
 
 
 def random_health(rng, n, spoil):
