@@ -97,20 +97,33 @@ def places(values):
 FEED_NUMBER = {"dark": 0, "fed": 1, "clash": 2}
 
 
+def reckoning(n, health, commands):
+    number, answers = rs.reckon(n, health, commands)
+    buses = b"".join(bytes([FEED_NUMBER[a[0]]] + list(a[1:]) + [0] * (3 - len(a))) for a in answers)
+    return bytes([n]) + places(health) + places(commands) + bytes([number]) + buses
+
+
 def plant(rng):
     for i in range(600):
         n = rng.choice([3, 3, 4, 5, 8, 20]) if i % 10 else rng.choice([0, 1, 2, 21, 255])
         health = random_health(rng, min(n, 20), i % 4 == 0)
         commands = {c: True for c in rs.ALL_CODES} if i == 1 else random_commands(rng, 20)
-        number, answers = rs.reckon(n, health, commands)
-        buses = b"".join(bytes([FEED_NUMBER[a[0]]] + list(a[1:]) + [0] * (3 - len(a))) for a in answers)
-        yield bytes([n]) + places(health) + places(commands) + bytes([number]) + buses
+        yield reckoning(n, health, commands)
+    # "n = 3, all fit, every part ordered on or closed: each bus a clash of G1 and G2"
+    yield reckoning(3, {c: 0 for c in rs.ALL_CODES}, {c: True for c in rs.ALL_CODES})
 
 
 def answer_bytes(answer, buffer):
     choices = b"".join(b"-\0" if c is None else bytes([ord(c.rank), c.generator]) for c in answer.choices)
     record = answer.record
     return bytes([answer.refusal, record.n]) + places(record.health) + places(record.orders) + choices + bytes(buffer)
+
+
+def stepped(record, part, word, room):
+    buffer = bytearray([170] * room)
+    before = bytes([record.n, 0]) + places(record.health) + places(record.orders)
+    answer = rs.step(record, rs.Report(part, word), buffer)
+    return before + bytes([KINDS.index(part.kind), part.number, word, room]) + answer_bytes(answer, buffer)
 
 
 def steps(rng):
@@ -133,10 +146,14 @@ def steps(rng):
         part = rs.Part(rng.choice(KINDS), rng.choice([0, 1, 2, 3, n, n, n + 1, 33, 255]) if i % 7 == 0 else rng.randint(1, n))
         word = rng.randrange(4)
         room = rng.choice([0, 1, 2, 3, 4, 6, 8, 12, 122]) if i % 3 == 0 else 122
-        buffer = bytearray([170] * room)
-        before = bytes([record.n, 0]) + places(record.health) + places(record.orders)
-        answer = rs.step(record, rs.Report(part, word), buffer)
-        yield before + bytes([KINDS.index(part.kind), part.number, word, room]) + answer_bytes(answer, buffer)
+        yield stepped(record, part, word, room)
+    # "report `65 2`, started ring of three, 5 bytes" is refused by 8; "6 bytes are enough"
+    for room in (5, 6):
+        yield stepped(rs.record_for(3, blank), rs.Part(rs.BUS_BREAKER, 2), 2, room)
+    # "n = 3, all fit, G2 on with GB2 open" is refused by 9
+    record = rs.record_for(3, blank)
+    record.orders[rs.code_of(rs.GENERATOR_BREAKER, 2)] = False
+    yield stepped(record, rs.Part(rs.BUS_BREAKER, 2), 2, 122)
 
 
 def store(crate, cases):
