@@ -15,6 +15,7 @@ use Rattle.model.specs.declared.Choice.{Choice}
 use Rattle.model.specs.declared.Choice.the-variants.{Dark}
 use Rattle.model.specs.declared.BusChoice.{BusChoice}
 use Rattle.model.specs.declared.Health.{Health}
+use Rattle.model.specs.declared.Commands.{Commands}
 use Rattle.model.specs.Lists.{first, anyOf}
 use Rattle.model.specs.Values.{samePart}
 use Rattle.model.specs.Plant.{PartHealth, largest, generator, generatorBreaker, busBreaker, stuckClosed, arc}
@@ -42,43 +43,49 @@ unfoldable pub lastChoice : ℕ → PartHealth → ℕ → Choice
 lastChoice n H zero = Dark
 lastChoice n H (suc k) = choiceOf n (plan n H k)
 
--- after the first b buses: the owner of each bus, the generators on chosen paths, and the bus breakers on them
+-- after the first b buses: the owner of each bus, and the commands that the paths chosen so far call for
 unfoldable pub served : ℕ → PartHealth → ℕ → Progress
 served n H b =
     record {
       last = record { choice = lastChoice n H b };
       owners = places (λ v. cond (ltb v n) (owner n H (chosen n H b) v) 0);
-      on = places (λ g. onPaths n (chosen n H b) (generator g));
-      closed = places (λ i. onPaths n (chosen n H b) (busBreaker i));
+      commands = commandPlaces (onPaths n (chosen n H b));
     }
+
+-- the health of each bus breaker
+abbrev pub breakersOf : PartHealth → ℕ → ℕ
+breakersOf H i = H (busBreaker i)
 
 -- a bus breaker counts as closed: B has the health of each, l says which are on chosen paths
 abbrev pub closedBy : (ℕ → ℕ) → List Bool → ℕ → Bool
 closedBy B l i = stuckClosed (B i) || getD l i false
 
+-- the commands with a generator and its breaker on, and these bus breakers
+abbrev pub commandsWith : Progress → ℕ → List Bool → Commands
+commandsWith s g l = record { generators = set (s .commands .generators) g true; «generator_breakers» = set (s .commands .«generator_breakers») g true; «bus_breakers» = l }
+
 -- the progress with path w taken
-unfoldable pub taken : ℕ → (ℕ → ℕ) → Progress → Path → Progress
-taken n B s w =
-    let l = setAll true (arc n (lower w) (pathSteps n w)) (s .closed) in
+unfoldable pub taken : ℕ → PartHealth → Progress → Path → Progress
+taken n H s w =
+    let l = setAll true (arc n (lower w) (pathSteps n w)) (s .commands .«bus_breakers») in
     let g = suc (w .source) in
     record {
       last = record { choice = choiceOf n (some w) };
-      owners = setAll g (reach n (closedBy B l) false (w .bus) n) (setAll g (reach n (closedBy B l) true (w .bus) n) (s .owners));
-      on = set (s .on) (w .source) true;
-      closed = l;
+      owners = setAll g (reach n (closedBy (breakersOf H) l) false (w .bus) n) (setAll g (reach n (closedBy (breakersOf H) l) true (w .bus) n) (s .owners));
+      commands = commandsWith s (w .source) l;
     }
 
 -- the same from what code finds on the way: what the path is called, its generator's number, its span, the breakers and the owners
-pub taken-by : (n : ℕ) (B : ℕ → ℕ) (s : Progress) (w : Path) (c : Choice) (g : ℕ) (p : Span) (l : List Bool) (o o′ : List ℕ)
-    → c ≡ choiceOf n (some w) → g ≡ suc (w .source) → p ≡ spanOf n w → l ≡ setAll true (arc n (p .from) (p .steps)) (s .closed)
-    → o ≡ setAll g (reach n (closedBy B l) true (w .bus) n) (s .owners) → o′ ≡ setAll g (reach n (closedBy B l) false (w .bus) n) o
-    → record { last = record { choice = c }; owners = o′; on = set (s .on) (w .source) true; closed = l } ≡ taken n B s w
+pub taken-by : (n : ℕ) (H : PartHealth) (s : Progress) (w : Path) (c : Choice) (g : ℕ) (p : Span) (l : List Bool) (o o′ : List ℕ)
+    → c ≡ choiceOf n (some w) → g ≡ suc (w .source) → p ≡ spanOf n w → l ≡ setAll true (arc n (p .from) (p .steps)) (s .commands .«bus_breakers»)
+    → o ≡ setAll g (reach n (closedBy (breakersOf H) l) true (w .bus) n) (s .owners) → o′ ≡ setAll g (reach n (closedBy (breakersOf H) l) false (w .bus) n) o
+    → record { last = record { choice = c }; owners = o′; commands = commandsWith s (w .source) l } ≡ taken n H s w
 unfolding taken
-taken-by n B s w c g p l o o′ ec eg ep el eo eo′ = rw (eo′, eo, el, ep, eg, ec)
+taken-by n H s w c g p l o o′ ec eg ep el eo eo′ = rw (eo′, eo, el, ep, eg, ec)
 
 -- the progress with a bus left dark
 abbrev pub darkened : Progress → Progress
-darkened s = record { last = record { choice = Dark }; owners = s .owners; on = s .on; closed = s .closed }
+darkened s = record { last = record { choice = Dark }; owners = s .owners; commands = s .commands }
 
 -- the choices of the first b buses
 unfoldable pub choicesTo : ℕ → PartHealth → ℕ → List BusChoice
@@ -98,12 +105,12 @@ on-more n ws w p t f g = either t (onPaths n ws p) ∙ ap (λ x. x || onPaths n 
     member : anyOf (samePart p) (pathParts n w) ≡ true → p ∈ pathParts n w
     member e = let s = any-at (samePart p) (pathParts n w) e in rw (same-eq p (s .0) (s .2)) (s .1)
 
--- a part that goes with the path's generator
-source-more : (n : ℕ) (ws : List Path) (w : Path) (v : ℕ) (p : Part) → (v ≡ w .source → p ∈ pathParts n w) → (p ∈ pathParts n w → v ≡ w .source) → cond (eqb v (w .source)) true (onPaths n ws p) ≡ onPaths n (w ∷ ws) p
-source-more n ws w v p f g = on-more n ws w p (eqb v (w .source)) (λ e. f (eqb-true v (w .source) e)) (λ m. eq-eqb v (w .source) (g m))
-
-generator-more : (n : ℕ) (ws : List Path) (w : Path) (v : ℕ) → cond (eqb v (w .source)) true (onPaths n ws (generator v)) ≡ onPaths n (w ∷ ws) (generator v)
-generator-more n ws w v = source-more n ws w v (generator v) (λ e. rw e (source-on n w)) (generator-on n w v)
+-- parts of one kind that go with the path's generator
+module _ (n : ℕ) (ws : List Path) (w : Path) (part : ℕ → Part) (on : part (w .source) ∈ pathParts n w) (only : (v : ℕ) → part v ∈ pathParts n w → v ≡ w .source) where
+  source-set : w .source < largest → set (places (λ v. onPaths n ws (part v))) (w .source) true ≡ places (λ v. onPaths n (w ∷ ws) (part v))
+  source-set h =
+      set-places (λ v. onPaths n ws (part v)) true (w .source) h
+      ∙ places-ext _ _ (λ v l. on-more n ws w (part v) (eqb v (w .source)) (λ e. rw (eqb-true v (w .source) e) on) (λ m. eq-eqb v (w .source) (only v m)))
 
 bus-breaker-more : (n : ℕ) (ws : List Path) (w : Path) (v : ℕ) → Ends n w → cond (anyOf (eqb v) (arc n (lower w) (pathSteps n w))) true (onPaths n ws (busBreaker v)) ≡ onPaths n (w ∷ ws) (busBreaker v)
 bus-breaker-more n ws w v h = on-more n ws w (busBreaker v) (anyOf (eqb v) line) to from
@@ -121,13 +128,6 @@ bus-breaker-more n ws w v h = on-more n ws w (busBreaker v) (anyOf (eqb v) line)
     from m =
         let t = path-at v h (bus-breaker-on n w v m) in
         any-in (eqb v) (arc-in n (lower w) (pathSteps n w) v (lower-lt h) (t .0) (t .1)) (eq-eqb v v refl)
-
--- a generator's breaker is on the paths that the generator is on
-breaker-with : (n : ℕ) (ws : List Path) (g : ℕ) → onPaths n ws (generator g) ≡ onPaths n ws (generatorBreaker g)
-unfolding onPaths anyOf
-breaker-with n [] g = refl
-breaker-with n (w ∷ ws) g =
-    sym (generator-more n ws w g) ∙ rw (breaker-with n ws g) (source-more n ws w g (generatorBreaker g) (λ e. rw e (breaker-on n w)) (generator-breaker-on n w g))
 
 -- ---- serving a bus
 
@@ -156,22 +156,22 @@ module _ (n : ℕ) (H : PartHealth) (b : ℕ) (hb : b < n) where
     unfolding plan
     ends = chosen-ends n H (chosen n H b) b w hb e
 
-    lines : setAll true (arc n (lower w) (pathSteps n w)) (served n H b .closed) ≡ places (λ i. onPaths n (w ∷ chosen n H b) (busBreaker i))
-    unfolding served
+    lines : setAll true (arc n (lower w) (pathSteps n w)) (served n H b .commands .«bus_breakers») ≡ places (λ i. onPaths n (w ∷ chosen n H b) (busBreaker i))
+    unfolding served commandPlaces
     lines =
         set-all-places (λ i. onPaths n (chosen n H b) (busBreaker i)) true (arc n (lower w) (pathSteps n w)) (λ i m. omega (arith, arc-at n (lower w) (pathSteps n w) i (lower-lt (ends .0)) m .0))
         ∙ places-ext _ _ (λ v l. bus-breaker-more n (chosen n H b) w v (ends .0))
 
-    runs : set (served n H b .on) (w .source) true ≡ places (λ g. onPaths n (w ∷ chosen n H b) (generator g))
-    unfolding served
-    runs =
-        set-places (λ g. onPaths n (chosen n H b) (generator g)) true (w .source) (omega (arith, ends .0 .source))
-        ∙ places-ext _ _ (λ v l. generator-more n (chosen n H b) w v)
+    commanded : (l : List Bool) → l ≡ places (λ i. onPaths n (w ∷ chosen n H b) (busBreaker i)) → commandsWith (served n H b) (w .source) l ≡ commandPlaces (onPaths n (w ∷ chosen n H b))
+    unfolding served commandPlaces
+    commanded l e =
+        let h : w .source < largest = omega (arith, ends .0 .source) in
+        rw (e, source-set n (chosen n H b) w generator (source-on n w) (generator-on n w) h, source-set n (chosen n H b) w generatorBreaker (breaker-on n w) (generator-breaker-on n w) h)
 
     -- where the walks from the path's bus go by the breakers l, which count the path
     module _ (l : List Bool) (is : l ≡ places (λ i. onPaths n (w ∷ chosen n H b) (busBreaker i))) where
       abbrev counted : ℕ → Bool
-      counted = closedBy (λ i. H (busBreaker i)) l
+      counted = closedBy (breakersOf H) l
 
       counted-is : (i : ℕ) → i < n → counted i ≡ countedClosed n H (w ∷ chosen n H b) i
       unfolding countedClosed
@@ -213,9 +213,11 @@ module _ (n : ℕ) (H : PartHealth) (b : ℕ) (hb : b < n) where
               (sym (owner-more (safe-chosen n H b (omega arith)) (ends .0) (first-at (permitted n H (chosen n H b)) (paths n b) w e .1) (w .bus) v (ends-in (ends .0) .1) hv)))
           each v (inr hv) = rw (not-reached true v hv, not-reached false v hv, le-ltb v n hv)
 
-    pub served-path : taken n (λ i. H (busBreaker i)) (served n H b) w ≡ served n H (b + 1)
+    pub served-path : taken n H (served n H b) w ≡ served n H (b + 1)
     unfolding taken addPath served
-    served-path = rw (chosen-next (some w) e, last-next, e, ← lines, ← runs, ← owns (setAll true (arc n (lower w) (pathSteps n w)) (served n H b .closed)) lines)
+    served-path =
+        let l = setAll true (arc n (lower w) (pathSteps n w)) (served n H b .commands .«bus_breakers») in
+        rw (chosen-next (some w) e, last-next, e, ← commanded l lines, ← owns l lines)
 
 -- by the arrays of a search and its answer f
 module _ (n : ℕ) (h : Health) (b : ℕ) (usable : List Bool) (s : Progress) (f : Found) (hb : b < n) (hn : n ≤ largest)
@@ -242,8 +244,7 @@ module _ (n : ℕ) (h : Health) (b : ℕ) (usable : List Bool) (s : Progress) (f
     unfolding plan
     serve-source = chosen-ends n (healthOf h) (chosen n (healthOf h) b) b (pathTo b g r) hb (rw e at found-plan) .0 .source
 
-    pub serve-path : taken n (at (h .«bus_breakers»)) s (pathTo b g r) ≡ served n (healthOf h) (b + 1)
-    unfolding healthOf
+    pub serve-path : taken n (healthOf h) s (pathTo b g r) ≡ served n (healthOf h) (b + 1)
     serve-path = rw is (served-path n (healthOf h) b hb (pathTo b g r) hn (rw e at found-plan))
 
 -- ---- before the first bus and after the last
@@ -256,8 +257,8 @@ same true x = refl
 same false x = refl
 
 module _ (n : ℕ) (H : PartHealth) where
-  pub served-none : record { last = record { choice = Dark }; owners = replicate largest 0; on = replicate largest false; closed = replicate largest false } ≡ served n H 0
-  unfolding served chosen lastChoice owner onPaths first anyOf
+  pub served-none : record { last = record { choice = Dark }; owners = replicate largest 0; commands = record { generators = replicate largest false; «generator_breakers» = replicate largest false; «bus_breakers» = replicate largest false } } ≡ served n H 0
+  unfolding served chosen lastChoice owner onPaths first anyOf commandPlaces
   served-none =
       rw (blank (λ v. cond (ltb v n) (owner n H [] v) 0) 0 (λ v l. same (ltb v n) 0), blank (λ p. false) false (λ v l. refl))
 
@@ -281,6 +282,6 @@ module _ (n : ℕ) (H : PartHealth) where
   unfolding choicesTo choices places
   choices-all = refl
 
-  pub commands-all : record { generators = served n H n .on; «generator_breakers» = served n H n .on; «bus_breakers» = served n H n .closed } ≡ commandPlaces (commands n H)
-  unfolding served commandPlaces commands
-  commands-all = rw (places-ext (λ g. onPaths n (chosen n H n) (generatorBreaker g)) (λ g. onPaths n (chosen n H n) (generator g)) (λ g l. sym (breaker-with n (chosen n H n) g)))
+  pub commands-all : served n H n .commands ≡ commandPlaces (commands n H)
+  unfolding served commands
+  commands-all = refl

@@ -48,12 +48,11 @@ struct Span {
 }
 
 // What is kept from bus to bus while they are served: the choice of the last, the owner of each bus (the number of the
-// chosen generator that it is connected to, or 0), the generators on chosen paths, and the bus breakers on them.
+// chosen generator that it is connected to, or 0), and the commands that the paths chosen so far call for.
 struct Progress {
     last: BusChoice,
     owners: [u8; 20],
-    on: [bool; 20],
-    closed: [bool; 20],
+    commands: Commands,
 }
 
 // The number of the generator at an index.
@@ -331,29 +330,35 @@ fn named(n: usize, b: usize, g: usize, rising: bool) -> Choice
     Choice::Low(number)
 }
 
-// The progress with a path taken: its generator is on and its breakers are closed, and the walks out from its bus to both
-// sides give its generator every bus that is now connected to it.
-fn take(n: usize, breakers: [u8; 20], s: Progress, b: usize, g: usize, rising: bool) -> Progress
+// The progress with a path taken: "Chosen generators are ordered on and breakers on chosen ways closed .. stuck ones too", and the
+// walks out from its bus to both sides give its generator every bus that is now connected to it.
+fn take(n: usize, health: Health, s: Progress, b: usize, g: usize, rising: bool) -> Progress
     requires { ⌜ (b < n) × (g < n) × (n ≤ 20) ⌝ }
-    ensures { λ r. ⌜ r ≡ taken n (at breakers) s (pathTo b g rising) ⌝ }
+    ensures { λ r. ⌜ r ≡ taken n (healthOf health) s (pathTo b g rising) ⌝ }
 {
-    let number = number_of(g);
+    let mut generators = s.commands.generators;
+    generators[g] = true;
+    let mut generator_breakers = s.commands.generator_breakers;
+    generator_breakers[g] = true;
     let span = span_of(n, b, g, rising);
+    let before = s.commands.bus_breakers;
+    let bus_breakers = close(n, before, span.from, span.steps);
     let last = BusChoice {
         choice: named(n, b, g, rising),
     };
-    let mut on = s.on;
-    on[g] = true;
-    let before = s.closed;
-    let closed = close(n, before, span.from, span.steps);
+    let number = number_of(g);
+    let breakers = health.bus_breakers;
     let owners = s.owners;
-    let above = spread(n, &breakers, &closed, owners, b, number, true);
-    let around = spread(n, &breakers, &closed, above, b, number, false);
+    let above = spread(n, &breakers, &bus_breakers, owners, b, number, true);
+    let around = spread(n, &breakers, &bus_breakers, above, b, number, false);
     Progress {
         last,
         owners: around,
-        on,
-        closed,
+        commands: Commands {
+            generators,
+            generator_breakers,
+            bus_breakers,
+        },
     }
 }
 
@@ -379,7 +384,7 @@ fn serve(n: usize, health: Health, usable: [bool; 20], s: Progress, b: usize) ->
     let owners = s.owners;
     match search(n, &usable, &breakers, &owners, b) {
         Found::Nothing => darken(s),
-        Found::Path { source: g, rising } => take(n, breakers, s, b, g, rising),
+        Found::Path { source: g, rising } => take(n, health, s, b, g, rising),
     }
 }
 
@@ -421,23 +426,17 @@ pub fn plan(n: u8, health: Health) -> Planned
     let mut s = Progress {
         last: dark,
         owners: [0u8; 20],
-        on: [false; 20],
-        closed: [false; 20],
+        commands: Commands {
+            generators: [false; 20],
+            generator_breakers: [false; 20],
+            bus_breakers: [false; 20],
+        },
     };
     for b in 0..size {
         s = serve(size, health, usable, s, b);
         let last = s.last;
         choices[b] = last;
     }
-    let generators = s.on;
-    let generator_breakers = s.on;
-    let bus_breakers = s.closed;
-    Planned {
-        choices,
-        commands: Commands {
-            generators,
-            generator_breakers,
-            bus_breakers,
-        },
-    }
+    let commands = s.commands;
+    Planned { choices, commands }
 }

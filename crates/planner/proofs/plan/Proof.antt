@@ -23,7 +23,7 @@ loop-again c =
 
 returns : tie.Need-returns Inv-loop μ-loop
 returns c =
-    let d = c .before .before .before in
+    let d = c .before in
     let q = d .before in
     let a = q .before .before .args in
     let e = le-antisymm (q .loop .inv .0) (d .loop-test .left) in
