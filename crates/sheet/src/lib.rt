@@ -8,7 +8,7 @@ ghost use Rattle.model.specs.Sheet.{sheet, written};
 ghost use Rattle.sheet.specs.Appended.{Appended};
 ghost use Rattle.sheet.specs.Codes.{changes, opens, closes, codes, openingCodes, closingCodes};
 ghost use Rattle.sheet.specs.Layout.{layout};
-ghost use Rattle.sheet.specs.Writing.{writeOutcome, writeBuffer};
+ghost use Rattle.sheet.specs.Writing.{roomOutcome, firstOutcome, writeOutcome, bufferAfter};
 use model::Commands;
 use model::Outcome;
 
@@ -154,21 +154,45 @@ fn lay_out(opening: &[u8; 60], closing: &[u8; 60], counts: Counts, buffer: &mut 
     fill(1, closed, buffer, closing_commands);
 }
 
-// Writes the sheet that leads from the old commands to the new, or refuses a buffer that is shorter. An inner call: n is at most 20,
-// which its callers have checked.
-pub fn write(n: u8, old: Commands, new: Commands, buffer: &mut [u8]) -> Outcome
+// Refusal 8 where a buffer is shorter than a sheet of these phases, "2 + 2k bytes".
+fn check_room(counts: Counts, room: usize) -> Outcome
+    requires { ⌜ (counts .opening ≤ 60) × (counts .closing ≤ 60) ⌝ }
+    ensures { λ r. ⌜ r ≡ roomOutcome room (2 + 2 * (counts .opening + counts .closing)) ⌝ }
+{
+    if room < 2 + 2 * (counts.opening + counts.closing) {
+        return Outcome::Refused(8);
+    }
+    Outcome::Served
+}
+
+// The outcome of two checks, one after the other.
+fn first_of(earlier: Outcome, later: Outcome) -> Outcome
+    ensures { λ r. ⌜ r ≡ firstOutcome earlier later ⌝ }
+{
+    match earlier {
+        Outcome::Served => later,
+        Outcome::Refused(number) => Outcome::Refused(number),
+    }
+}
+
+// Writes the sheet that leads from the old commands to the new, unless the checks before it have refused the call, or the buffer is
+// shorter. An inner call: n is at most 20, which its callers have checked.
+pub fn write(n: u8, old: Commands, new: Commands, checked: Outcome, buffer: &mut [u8]) -> Outcome
     requires { ⌜ n ≤ 20 ⌝ }
-    ensures answer { λ r. ⌜ r ≡ writeOutcome (sheet n (commandsOf old) (commandsOf new)) (now (buffer .entry)) ⌝ }
-    ensures bytes { λ r. ⌜ now (buffer .exit) ≡ writeBuffer (sheet n (commandsOf old) (commandsOf new)) (now (buffer .entry)) ⌝ }
+    ensures answer { λ r. ⌜ r ≡ writeOutcome checked (sheet n (commandsOf old) (commandsOf new)) (now (buffer .entry)) ⌝ }
+    ensures bytes { λ r. ⌜ now (buffer .exit) ≡ bufferAfter r (sheet n (commandsOf old) (commandsOf new)) (now (buffer .entry)) ⌝ }
 {
     // A ring has at most 60 parts, and so has a phase.
     let mut opening = [0u8; 60];
     let mut closing = [0u8; 60];
     let counts = phases(n as usize, old, new, &mut opening, &mut closing);
-    // A refused call leaves "the buffer untouched": the length is tested before the first byte is written.
-    if buffer.len() < 2 + 2 * (counts.opening + counts.closing) {
-        return Outcome::Refused(8);
+    let room = check_room(counts, buffer.len());
+    // "A step checks 9, 5, 6, 7, 8": 8 is the last. A refused call leaves "the buffer untouched".
+    match first_of(checked, room) {
+        Outcome::Served => {
+            lay_out(&opening, &closing, counts, buffer);
+            Outcome::Served
+        }
+        Outcome::Refused(number) => Outcome::Refused(number),
     }
-    lay_out(&opening, &closing, counts, buffer);
-    Outcome::Served
 }

@@ -18,7 +18,7 @@ use Rattle.model.specs.Sheet.{sheet, written}
 use Rattle.model.specs.Reports.{healthOf, healthPlaces, commandsOf, commandPlaces, withPlan}
 use Rattle.model.specs.Refusals.{tooShort, nextSheet}
 use Rattle.model.specs.Answers.{Reply, allDark, refusedReply, servedReply}
-use Rattle.sheet.specs.Writing.{writeOutcome, writeBuffer}
+use Rattle.sheet.specs.Writing.{writeOutcome, bufferAfter}
 use Rattle.transition.specs.Laws.{served-refused, Sized, health-held, choices-held, commands-held, sheet-held, places-held}
 
 -- a refused answer
@@ -29,9 +29,14 @@ refusedAnswer k ring = record { outcome = Refused k; ring = ring; choices = allD
 abbrev pub servedAnswer : Ring → Health → Commands → List BusChoice → RingAnswer
 servedAnswer ring h new cs = record { outcome = Served; ring = record { n = ring .n; health = h; commands = new }; choices = cs }
 
--- a ring taken to another health, or refusal 8
-unfoldable pub advanceReply : Ring → PartHealth → List ℕ → Reply
-advanceReply ring H buffer = cond (tooShort (length buffer) (nextSheet ring H)) (refusedReply 8 ring buffer) (servedReply ring H buffer)
+-- the reply with an outcome: a ring taken to another health, or kept
+abbrev pub replyBy : Outcome → Ring → PartHealth → List ℕ → Reply
+replyBy Served ring H buffer = servedReply ring H buffer
+replyBy (Refused k) ring H buffer = record { answer = refusedAnswer k ring; buffer = buffer }
+
+-- a ring taken to another health, unless the checks before it or 8 refuse
+unfoldable pub advanceReply : Outcome → Ring → PartHealth → List ℕ → Reply
+advanceReply checked ring H buffer = replyBy (writeOutcome checked (nextSheet ring H) buffer) ring H buffer
 
 -- a call that answers r and leaves the bytes `after` in the buffer gives a reply
 abbrev pub Gives : RingAnswer → List ℕ → Reply → Type 0
@@ -43,38 +48,30 @@ sheetTo ring new = sheet (ring .n) (commandsOf (ring .commands)) (commandsOf new
 
 -- what the planner and the writing of the sheet say
 module _ (ring : Ring) (small : ring .n ≤ largest) (h : Health) (new : Commands) (planned : new ≡ commandPlaces (commands (ring .n) (healthOf h)))
-    (buffer after : List ℕ) (o : Outcome) (told : o ≡ writeOutcome (sheetTo ring new) buffer) (left : after ≡ writeBuffer (sheetTo ring new) buffer) where
+    (checked : Outcome) (buffer after : List ℕ) (o : Outcome) (told : o ≡ writeOutcome checked (sheetTo ring new) buffer) (left : after ≡ bufferAfter o (sheetTo ring new) buffer) where
   -- the sheet written is the next one
   next-sheet : sheetTo ring new ≡ nextSheet ring (healthOf h)
   unfolding nextSheet
   next-sheet = rw planned (sheet-held (ring .n) (commandsOf (ring .commands)) (commands (ring .n) (healthOf h)) small)
 
-  -- by whether the buffer is too short
-  by-room : (r : RingAnswer) → ((t : Bool) → o ≡ outcomeOf (cond t 8 0) → r ≡ cond t (refusedReply 8 ring buffer) (servedReply ring (healthOf h) buffer) .answer) → Gives r after (advanceReply ring (healthOf h) buffer)
-  unfolding advanceReply refusedReply servedReply writeOutcome writeBuffer
-  by-room r f = let t = tooShort (length buffer) (nextSheet ring (healthOf h)) in (f t (rw next-sheet at told), rw next-sheet at left ∙ go t)
-    where
-      go : (t : Bool) → cond t buffer (written (nextSheet ring (healthOf h)) buffer) ≡ cond t (refusedReply 8 ring buffer) (servedReply ring (healthOf h) buffer) .buffer
-      go true = refl
-      go false = refl
+  reply-is : advanceReply checked ring (healthOf h) buffer ≡ replyBy o ring (healthOf h) buffer
+  unfolding advanceReply
+  reply-is = rw (told, next-sheet)
 
-  pub advance-refused : (k : ℕ) → o ≡ Refused k → (r : RingAnswer) → r ≡ refusedAnswer k ring → Gives r after (advanceReply ring (healthOf h) buffer)
-  unfolding refusedReply outcomeOf
-  advance-refused k e r is = by-room r go
-    where
-      go : (t : Bool) → o ≡ outcomeOf (cond t 8 0) → r ≡ cond t (refusedReply 8 ring buffer) (servedReply ring (healthOf h) buffer) .answer
-      go true q = let z : k ≡ 8 = cc in rw z at is
-      go false q = served-refused q e
+  pub advance-refused : (k : ℕ) → o ≡ Refused k → (r : RingAnswer) → r ≡ refusedAnswer k ring → Gives r after (advanceReply checked ring (healthOf h) buffer)
+  advance-refused k e r is = rw (reply-is, e) (is, left ∙ rw e)
 
-  pub advance-served : o ≡ Served → Sized h → (cs : List BusChoice) → cs ≡ choices (ring .n) (healthOf h) → Gives (servedAnswer ring h new cs) after (advanceReply ring (healthOf h) buffer)
+  pub advance-served : o ≡ Served → Sized h → (cs : List BusChoice) → cs ≡ choices (ring .n) (healthOf h) → Gives (servedAnswer ring h new cs) after (advanceReply checked ring (healthOf h) buffer)
   unfolding servedReply withPlan outcomeOf
-  advance-served e sized cs is = by-room (servedAnswer ring h new cs) go
-    where
-      go : (t : Bool) → o ≡ outcomeOf (cond t 8 0) → servedAnswer ring h new cs ≡ cond t (refusedReply 8 ring buffer) (servedReply ring (healthOf h) buffer) .answer
-      go true q = served-refused e q
-      go false q = rw (is, planned, ← health-held h sized)
+  advance-served e sized cs is = rw (reply-is, e) (rw (is, planned, ← health-held h sized), left ∙ rw (e, next-sheet))
 
 -- the arrays that a health is made of lead where it leads
-pub advance-held : (ring : Ring) (H : PartHealth) (buffer : List ℕ) → ring .n ≤ largest → advanceReply ring (healthOf (healthPlaces H)) buffer ≡ advanceReply ring H buffer
-unfolding advanceReply servedReply withPlan nextSheet
-advance-held ring H buffer small = rw (commands-held (ring .n) small H, choices-held (ring .n) small H, places-held H)
+module _ (ring : Ring) (H : PartHealth) (buffer : List ℕ) (small : ring .n ≤ largest) where
+  reply-held : (o : Outcome) → replyBy o ring (healthOf (healthPlaces H)) buffer ≡ replyBy o ring H buffer
+  unfolding servedReply withPlan nextSheet
+  reply-held Served = rw (commands-held (ring .n) small H, choices-held (ring .n) small H, places-held H)
+  reply-held (Refused k) = refl
+
+  pub advance-held : (checked : Outcome) → advanceReply checked ring (healthOf (healthPlaces H)) buffer ≡ advanceReply checked ring H buffer
+  unfolding advanceReply nextSheet
+  advance-held checked = rw (commands-held (ring .n) small H) (reply-held (writeOutcome checked (nextSheet ring H) buffer))

@@ -18,13 +18,10 @@ use Rattle.model.specs.Reports.{allFit, healthOf, healthPlaces, blankRing}
 use Rattle.model.specs.Refusals.{firstMet, sizeOutside, notOfRing, wordOfOtherKind, generatorFitAgain, tooShort, badRecord, nextSheet, nextHealth, reportConditions, startRefusal, stepRefusal}
 use Rattle.model.specs.Answers.{Reply, refusedReply, servedReply, startReply, stepReply}
 use Rattle.model.specs.Laws.Tests.{or-none}
-use Rattle.model.specs.Laws.Refusals.{inside, when-served, when-refused}
+use Rattle.model.specs.Laws.Refusals.{inside}
 use Rattle.transition.specs.Laws.{served-refused, size-bounds}
-use Rattle.transition.specs.Advance.{refusedAnswer, advanceReply, Gives, advance-held}
-
--- a refused reply
-abbrev pub refusedBy : Ring → List ℕ → ℕ → Reply
-refusedBy ring buffer k = record { answer = refusedAnswer k ring; buffer = buffer }
+use Rattle.sheet.specs.Writing.{roomOutcome, firstOutcome, writeOutcome}
+use Rattle.transition.specs.Advance.{refusedAnswer, replyBy, advanceReply, Gives, advance-held}
 
 -- ---- start
 
@@ -45,11 +42,19 @@ module _ (n : ℕ) (big : smallest ≤ n) (small : n ≤ largest) (buffer : List
       go true = refl
       go false = refl
 
+  advance-is : advanceReply Served (blankRing n) allFit buffer ≡ by-eight (blankRing n) short
+  unfolding advanceReply writeOutcome roomOutcome outcomeOf refusedReply tooShort by-eight short
+  advance-is = go short
+    where
+      go : (t : Bool) → replyBy (outcomeOf (cond t 8 0)) (blankRing n) allFit buffer ≡ by-eight (blankRing n) t
+      go true = refl
+      go false = refl
+
   -- a blank ring taken to its own health, all parts fit
-  module _ (ring : Ring) (blank : ring ≡ blankRing n) (after : List ℕ) (a : RingAnswer) (gives : Gives a after (advanceReply ring (healthOf (ring .health)) buffer)) where
+  module _ (ring : Ring) (blank : ring ≡ blankRing n) (after : List ℕ) (a : RingAnswer) (gives : Gives a after (advanceReply Served ring (healthOf (ring .health)) buffer)) where
     advanced : Gives a after (by-eight (blankRing n) short)
-    unfolding advanceReply blankRing by-eight short
-    advanced = rw (advance-held (blankRing n) allFit buffer small) at (rw blank at gives)
+    unfolding blankRing
+    advanced = rw (advance-held (blankRing n) allFit buffer small Served ∙ advance-is) at (rw blank at gives)
 
     pub start-served : a .outcome ≡ Served → Gives a after (startReply n buffer)
     unfolding by-eight refusedReply outcomeOf
@@ -75,38 +80,22 @@ unfolding badRecord anyOf
 good-size ring good = size-bounds (ring .n) (or-none (sizeOutside (ring .n)) _ good .0)
 
 module _ (ring : Ring) (good : badRecord ring ≡ false) (r : Report) (buffer : List ℕ) where
-  abbrev checks : ℕ
-  checks = firstMet (reportConditions (ring .n) r)
-
-  -- the reply to a report that passes the checks
-  passed : Reply
-  passed = advanceReply ring (nextHealth ring r) buffer
-
   -- 5, 6 and 7 come before 8
-  step-is : stepReply ring r buffer ≡ cond (eqb checks 0) passed (refusedBy ring buffer checks)
-  unfolding stepReply stepRefusal firstMet reportConditions advanceReply refusedReply outcomeOf passed
+  step-is : advanceReply (outcomeOf (firstMet (reportConditions (ring .n) r))) ring (nextHealth ring r) buffer ≡ stepReply ring r buffer
+  unfolding stepReply stepRefusal firstMet reportConditions advanceReply writeOutcome roomOutcome tooShort refusedReply outcomeOf
   step-is = rw good
       (go (notOfRing (ring .n) (r .part)) (wordOfOtherKind (r .part) (wordNumber (r .word))) (generatorFitAgain (r .part) (wordNumber (r .word)))
       (tooShort (length buffer) (nextSheet ring (nextHealth ring r))))
     where
-      served : Reply
-      served = servedReply ring (nextHealth ring r) buffer
-
       go : (five six seven eight : Bool)
-          → (let k = cond five 5 (cond six 6 (cond seven 7 (cond eight 8 0))) in cond (eqb k 0) served (refusedReply k ring buffer))
-          ≡ (let k = cond five 5 (cond six 6 (cond seven 7 0)) in cond (eqb k 0) (cond eight (refusedReply 8 ring buffer) served) (refusedBy ring buffer k))
+          → replyBy (firstOutcome (outcomeOf (cond five 5 (cond six 6 (cond seven 7 0)))) (outcomeOf (cond eight 8 0))) ring (nextHealth ring r) buffer
+          ≡ (let k = cond five 5 (cond six 6 (cond seven 7 (cond eight 8 0))) in cond (eqb k 0) (servedReply ring (nextHealth ring r) buffer) (refusedReply k ring buffer))
       go true six seven eight = refl
       go false true seven eight = refl
       go false false true eight = refl
       go false false false true = refl
       go false false false false = refl
 
-  module _ (o : Outcome) (checked : o ≡ outcomeOf checks) where
-    pub step-refused : (k : ℕ) → o ≡ Refused k → (a : RingAnswer) → a ≡ refusedAnswer k ring → Gives a buffer (stepReply ring r buffer)
-    step-refused k e a is = let z = when-refused passed (refusedBy ring buffer) checks o checked k e ∙ sym step-is in (is ∙ ap (λ (x : Reply). x .answer) z, ap (λ (x : Reply). x .buffer) z)
-
-    pub step-served : o ≡ Served → (h : Health) → h ≡ healthPlaces (nextHealth ring r) → (a : RingAnswer) (after : List ℕ) → Gives a after (advanceReply ring (healthOf h) buffer) → Gives a after (stepReply ring r buffer)
-    unfolding passed
-    step-served e h is a after g =
-        let z = advance-held ring (nextHealth ring r) buffer (good-size ring good .1) ∙ when-served passed (refusedBy ring buffer) checks o checked e ∙ sym step-is in
-        rw z at (rw is at g)
+  pub step-advance : (checked : Outcome) → checked ≡ outcomeOf (firstMet (reportConditions (ring .n) r)) → (h : Health) → h ≡ healthPlaces (nextHealth ring r)
+      → (a : RingAnswer) (after : List ℕ) → Gives a after (advanceReply checked ring (healthOf h) buffer) → Gives a after (stepReply ring r buffer)
+  step-advance checked e h is a after g = rw (advance-held ring (nextHealth ring r) buffer (good-size ring good .1) _ ∙ step-is) at (rw (is, e) at g)

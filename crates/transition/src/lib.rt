@@ -94,12 +94,12 @@ pub fn refused(number: u8, ring: Ring) -> RingAnswer
     }
 }
 
-// A ring taken to another health: "gives the new record, each bus's choice and the sheet", or is refused by 8. The new state is the
-// old one with the fields that the health changes.
-fn advance(ring: Ring, health: Health, buffer: &mut [u8]) -> RingAnswer
+// A ring taken to another health: "gives the new record, each bus's choice and the sheet", unless the checks before it have refused the
+// call, or 8 does. The new state is the old one with the fields that the health changes.
+fn advance(ring: Ring, health: Health, checked: Outcome, buffer: &mut [u8]) -> RingAnswer
     requires { ⌜ (3 ≤ ring .n) × (ring .n ≤ 20) ⌝ }
-    ensures answer { λ r. ⌜ r ≡ advanceReply ring (healthOf health) (now (buffer .entry)) .answer ⌝ }
-    ensures bytes { λ r. ⌜ now (buffer .exit) ≡ advanceReply ring (healthOf health) (now (buffer .entry)) .buffer ⌝ }
+    ensures answer { λ r. ⌜ r ≡ advanceReply checked ring (healthOf health) (now (buffer .entry)) .answer ⌝ }
+    ensures bytes { λ r. ⌜ now (buffer .exit) ≡ advanceReply checked ring (healthOf health) (now (buffer .entry)) .buffer ⌝ }
 {
     let planned = planner::plan(ring.n, health);
     let old = ring.commands;
@@ -108,7 +108,7 @@ fn advance(ring: Ring, health: Health, buffer: &mut [u8]) -> RingAnswer
     let mut next = ring;
     next.health = health;
     next.commands = new;
-    match sheet::write(ring.n, old, new, buffer) {
+    match sheet::write(ring.n, old, new, checked, buffer) {
         Outcome::Served => RingAnswer {
             outcome: Outcome::Served,
             ring: next,
@@ -127,7 +127,7 @@ pub fn start(n: u8, buffer: &mut [u8]) -> RingAnswer
 {
     let ring = blank(n);
     let health = ring.health;
-    let answer = advance(ring, health, buffer);
+    let answer = advance(ring, health, Outcome::Served, buffer);
     let outcome = answer.outcome;
     match outcome {
         Outcome::Served => answer,
@@ -143,11 +143,7 @@ pub fn step(ring: Ring, report: Report, buffer: &mut [u8]) -> RingAnswer
     ensures answer { λ r. ⌜ r ≡ stepReply ring report (now (buffer .entry)) .answer ⌝ }
     ensures bytes { λ r. ⌜ now (buffer .exit) ≡ stepReply ring report (now (buffer .entry)) .buffer ⌝ }
 {
-    match reports::check_report(ring.n, report) {
-        Outcome::Served => {
-            let health = with_word(ring.health, report);
-            advance(ring, health, buffer)
-        }
-        Outcome::Refused(condition) => refused(condition, ring),
-    }
+    let checked = reports::check_report(ring.n, report);
+    let health = with_word(ring.health, report);
+    advance(ring, health, checked, buffer)
 }

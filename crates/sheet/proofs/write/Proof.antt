@@ -1,5 +1,5 @@
 -- `write`: the sheet is laid out where it fits.
-use mathlib.Core.Path.{_≡_, sym, _∙_, ap}
+use mathlib.Core.Path.{_≡_, refl, sym, _∙_, ap}
 use mathlib.Core.List.{List}
 use Prim.Native.Nat.{ℕ, _+_, _*_, _≤_}
 use native.Mathlib.Omega.{arith}
@@ -11,7 +11,7 @@ use Rattle.model.specs.Laws.Sheet.{sheet-fits}
 use Rattle.sheet.specs.Appended.{appended-length, appended-front}
 use Rattle.sheet.specs.Codes.{openingCodes, closingCodes}
 use Rattle.sheet.specs.Layout.{layout, sheet-layout, layout-length}
-use Rattle.sheet.specs.Writing.{write-refused, write-served}
+use Rattle.sheet.specs.Writing.{writeOutcome, room-served}
 use borrow.Author.Needs.{needs}
 use Rattle.sheet.proofs.write.Statement.{statement}
 use Rattle.sheet.proofs.write.Tie as tie
@@ -38,23 +38,28 @@ made d =
     let k : length (closingCodes (a .n) (a .old) (a .new)) ≤ 60 = omega (arith, counted d, d .phases .ensures) in
     rw (appended-front (d .phases .ensures .0) o, appended-front (d .phases .ensures .1) k) (sym (sheet-layout (a .n) (a .old) (a .new)))
 
-returns : tie.Need-returns
-returns c =
-    let d = c .before .before in
-    write-refused (bytes d) (now (start d .args .buffer)) (omega (arith, counted d))
+-- the checks before it and the room, in this order
+outcome : (d : tie.After-first-of) → d .first-of .result ≡ writeOutcome (start (d .before .before) .args .checked) (bytes (d .before .before)) (now (start (d .before .before) .args .buffer))
+unfolding writeOutcome
+outcome d = d .first-of .ensures ∙ rw (d .before .check-room .ensures, counted (d .before .before) .0)
 
 lay-out-requires : tie.Need-lay-out-requires
 lay-out-requires c κs =
-    let d = c .before .before .before .before .before in
-    (appended-length (d .phases .ensures .0), appended-length (d .phases .ensures .1), omega (arith, counted d), omega (arith, counted d), omega (arith, c .before .before .before .if1 .left))
+    let f = c .before .before .before .before .before in
+    let d = f .before .before in
+    let r = room-served (start d .args .checked) (bytes d) (now (start d .args .buffer)) (sym (outcome f) ∙ c .before .before .before .enum-told .given .1) in
+    (appended-length (d .phases .ensures .0), appended-length (d .phases .ensures .1), omega (arith, counted d), omega (arith, counted d), omega (arith, counted d, r))
+
+returns : tie.Need-returns
+returns c =
+    let f = c .before .before .before .before .before .before .before .before in
+    let d = f .before .before in
+    (sym (c .before .before .before .before .before .before .enum-told .given .1) ∙ outcome f, c .before .before .lay-out .ensures ∙ ap (λ l. written l (now (start d .args .buffer))) (made d))
 
 returns-2 : tie.Need-returns-2
-returns-2 c =
-    let d = c .before .before .before .before .before .before .before .before in
-    let w = write-served (bytes d) (now (start d .args .buffer)) (omega (arith, counted d)) in
-    (w .0, c .before .before .lay-out .ensures ∙ ap (λ l. written l (now (start d .args .buffer))) (made d) ∙ w .1)
+returns-2 c = let f = c .before .before .before in (sym (c .before .number .given .1) ∙ outcome f, refl)
 
 pub write-spec : {M : Type 1} → statement M
 write-spec =
     tie.close
-    (tie.spec (λ c κs. search needs) (λ c. omega (arith, counted (c .before))) (λ c. omega (arith, counted (c .before))) (λ c. omega (arith, counted (c .before))) returns lay-out-requires (λ c. search needs) returns-2)
+    (tie.spec (λ c κs. search needs) (λ c κs. (omega (arith, counted c), omega (arith, counted c))) (λ c κs. search needs) (λ c. search needs) lay-out-requires (λ c. search needs) (λ c. search needs) returns returns-2)
