@@ -14,8 +14,7 @@ use Rattle.model.specs.Choosing.{commands}
 use Rattle.model.specs.Reports.{healthOf, commandsOf, commandPlaces}
 use Rattle.model.specs.Refusals.{sizeOutside, healthOutside, activeAbove, unplanned, badRecord}
 use Rattle.model.specs.Laws.Lists.{any-ext}
-use Rattle.model.specs.Laws.Parts.{InRing, parts-at, command-places}
-use Rattle.control.specs.Laws.{some-part, no-part}
+use Rattle.model.specs.Laws.Parts.{InRing, parts-at, some-part, no-part, command-places}
 
 -- "not fit or not ordered off or open"
 abbrev pub active : PartHealth → PartCommands → Part → Bool

@@ -4,3 +4,4 @@ pub mod Parts
 pub mod Sheet
 pub mod Reports
 pub mod Refusals
+pub mod Appended

@@ -4,7 +4,6 @@ use mathlib.Core.Bool.{Bool, true, false, _||_, cond}
 use mathlib.Core.Logic.{_⊎_, inl, inr, _≢_}
 use mathlib.Core.List.{List, [], _∷_, List·Memᴰ·head, List·Memᴰ·tail}
 use Prim.Native.Nat.{ℕ, _<_}
-use native.Mathlib.Omega.{arith}
 use lib.Dec.{eqb}
 use lib.ListN.{length, getD, set, length-set}
 use lib.Seq.{getD-set-same, getD-set-other}
@@ -47,13 +46,7 @@ set-all-length x [] l = refl
 set-all-length x (i ∷ is) l = set-all-length x is (set l i x) ∙ length-set l i x
 
 -- stores into an array that holds f
-module _ {A : Type 0} (f : ℕ → A) (x : A) where
-  pub set-places : (i : ℕ) → i < largest → set (places f) i x ≡ places (λ v. cond (eqb v i) x (f v))
-  set-places i h =
-      is-places (λ v. cond (eqb v i) x (f v)) (set (places f) i x) x (length-set (places f) i x ∙ places-length f)
-      (λ v l. set-at x x (places f) i v (omega (arith, places-length f)) ∙ rw (places-at f v x l))
-
-  pub set-all-places : (is : List ℕ) → ((i : ℕ) → i ∈ is → i < largest) → setAll x is (places f) ≡ places (λ v. cond (anyOf (eqb v) is) x (f v))
-  set-all-places is h =
-      is-places (λ v. cond (anyOf (eqb v) is) x (f v)) (setAll x is (places f)) x (set-all-length x is (places f) ∙ places-length f)
-      (λ v l. set-all-at x x is (places f) v (λ i m. rw (places-length f) (h i m)) ∙ rw (places-at f v x l))
+pub set-all-places : {A : Type 0} (f : ℕ → A) (x : A) (is : List ℕ) → ((i : ℕ) → i ∈ is → i < largest) → setAll x is (places f) ≡ places (λ v. cond (anyOf (eqb v) is) x (f v))
+set-all-places f x is h =
+    is-places (λ v. cond (anyOf (eqb v) is) x (f v)) (setAll x is (places f)) x (set-all-length x is (places f) ∙ places-length f)
+    (λ v l. set-all-at x x is (places f) v (λ i m. rw (places-length f) (h i m)) ∙ rw (places-at f v x l))

@@ -24,7 +24,7 @@ use Rattle.model.specs.Choosing.{onPaths, countedClosed, permitted, choose, add
 use Rattle.model.specs.Reports.{places, healthOf, commandPlaces}
 use Rattle.model.specs.Laws.Tests.{iff, dec, dec-eq, dec-lt}
 use Rattle.model.specs.Laws.Lists.{_∈_, any-at, any-in, first-at, first-ext}
-use Rattle.model.specs.Laws.Parts.{same-eq, same-refl, places-at, places-ext, is-places}
+use Rattle.model.specs.Laws.Parts.{same-eq, same-refl, places-at, places-ext, set-places, is-places}
 use Rattle.theory.specs.Geometry.{arc-at, arc-in}
 use Rattle.theory.specs.Connected.{connected-ext}
 use Rattle.theory.specs.Paths.{lower, Ends, lower-lt, path-at, path-in, source-on, breaker-on, line-on, generator-on, generator-breaker-on, bus-breaker-on, pathTo, tried-at}
@@ -33,7 +33,7 @@ use Rattle.planner.specs.declared.Progress.{Progress}
 use Rattle.planner.specs.declared.Span.{Span}
 use Rattle.planner.specs.declared.Found.{Found}
 use Rattle.planner.specs.declared.Found.the-variants as found
-use Rattle.planner.specs.Arrays.{setAll, set-places, set-all-places, both}
+use Rattle.planner.specs.Arrays.{setAll, set-all-places, both}
 use Rattle.planner.specs.Walk.{reach, reach-at, reach-connected}
 use Rattle.planner.specs.Search.{spanOf, at, passesBy, pathFound}
 use Rattle.planner.specs.Owner.{owner, mayFeed, pathSteps, passes, ends-in, owner-more, walk-choice}
@@ -107,9 +107,9 @@ on-more n ws w p t f g = either t (onPaths n ws p) ∙ ap (λ x. x || onPaths n 
 
 -- parts of one kind that go with the path's generator
 module _ (n : ℕ) (ws : List Path) (w : Path) (part : ℕ → Part) (on : part (w .source) ∈ pathParts n w) (only : (v : ℕ) → part v ∈ pathParts n w → v ≡ w .source) where
-  source-set : w .source < largest → set (places (λ v. onPaths n ws (part v))) (w .source) true ≡ places (λ v. onPaths n (w ∷ ws) (part v))
-  source-set h =
-      set-places (λ v. onPaths n ws (part v)) true (w .source) h
+  source-set : set (places (λ v. onPaths n ws (part v))) (w .source) true ≡ places (λ v. onPaths n (w ∷ ws) (part v))
+  source-set =
+      set-places (λ v. onPaths n ws (part v)) true (w .source)
       ∙ places-ext _ _ (λ v l. on-more n ws w (part v) (eqb v (w .source)) (λ e. rw (eqb-true v (w .source) e) on) (λ m. eq-eqb v (w .source) (only v m)))
 
 bus-breaker-more : (n : ℕ) (ws : List Path) (w : Path) (v : ℕ) → Ends n w → cond (anyOf (eqb v) (arc n (lower w) (pathSteps n w))) true (onPaths n ws (busBreaker v)) ≡ onPaths n (w ∷ ws) (busBreaker v)
@@ -165,8 +165,7 @@ module _ (n : ℕ) (H : PartHealth) (b : ℕ) (hb : b < n) where
     commanded : (l : List Bool) → l ≡ places (λ i. onPaths n (w ∷ chosen n H b) (busBreaker i)) → commandsWith (served n H b) (w .source) l ≡ commandPlaces (onPaths n (w ∷ chosen n H b))
     unfolding served commandPlaces
     commanded l e =
-        let h : w .source < largest = omega (arith, ends .0 .source) in
-        rw (e, source-set n (chosen n H b) w generator (source-on n w) (generator-on n w) h, source-set n (chosen n H b) w generatorBreaker (breaker-on n w) (generator-breaker-on n w) h)
+        rw (e, source-set n (chosen n H b) w generator (source-on n w) (generator-on n w), source-set n (chosen n H b) w generatorBreaker (breaker-on n w) (generator-breaker-on n w))
 
     -- where the walks from the path's bus go by the breakers l, which count the path
     module _ (l : List Bool) (is : l ≡ places (λ i. onPaths n (w ∷ chosen n H b) (busBreaker i))) where
@@ -266,9 +265,9 @@ module _ (n : ℕ) (H : PartHealth) where
   unfolding choicesTo
   choices-none = blank _ _ (λ v l. rw (le-ltb v 0 (omega arith)))
 
-  pub choices-more : (b : ℕ) → b < largest → set (choicesTo n H b) b (served n H (b + 1) .last) ≡ choicesTo n H (b + 1)
+  pub choices-more : (b : ℕ) → set (choicesTo n H b) b (served n H (b + 1) .last) ≡ choicesTo n H (b + 1)
   unfolding choicesTo served lastChoice
-  choices-more b h = set-places (chosenTo b) _ b h ∙ places-ext _ (chosenTo (b + 1)) (λ v l. each v (dec-eq v b) (dec-lt v b))
+  choices-more b = set-places (chosenTo b) _ b ∙ places-ext _ (chosenTo (b + 1)) (λ v l. each v (dec-eq v b) (dec-lt v b))
     where
       chosenTo : ℕ → ℕ → BusChoice
       chosenTo k v = record { choice = cond (ltb v k) (choiceOf n (plan n H v)) Dark }

@@ -16,11 +16,11 @@ use Rattle.model.specs.Plant.{up}
 use Rattle.model.specs.Priority.{Path, sources, highRises, pathsFrom, paths}
 use Rattle.model.specs.Laws.Tests.{contra, and-left, and-right, and-intro, dec, dec-eq}
 use Rattle.model.specs.Laws.Lists.{_∈_}
+use Rattle.theory.specs.Demand2Holds.{sources-length}
 use Rattle.theory.specs.Paths.{lower, upper, Ends, lower-lt, upper-lt, pathTo, from-at}
 use Rattle.planner.specs.declared.Span.{Span}
 use Rattle.planner.specs.declared.Found.{Found}
 use Rattle.planner.specs.declared.Found.the-variants as found
-use Rattle.planner.specs.Sources.{sources-length}
 use Rattle.planner.specs.Walk.{free, clear-at}
 use Rattle.planner.specs.Owner.{pathSteps, clearPath, ends-in}
 
@@ -101,9 +101,9 @@ module _ (n b : ℕ) (f : Path → Bool) where
   left-start = refl
 
   -- the next generator
-  pub left-source : (r g : ℕ) → 2 ≤ n → b < n → r < n → g ≡ getD (sources n b) r 0 → first f (pathsAfter n b r) ≡ first f (pathsLeft n b r g 0)
+  pub left-source : (r g : ℕ) → b < n → r < n → g ≡ getD (sources n b) r 0 → first f (pathsAfter n b r) ≡ first f (pathsLeft n b r g 0)
   unfolding flatMap
-  left-source r g h hb hr e = rw (drop-cons (sources n b) r 0 (rw (sources-length n b h hb) hr), add-one r, e)
+  left-source r g hb hr e = rw (drop-cons (sources n b) r 0 (rw (sources-length n b hb) hr), add-one r, e)
 
   -- none of its paths passes
   pub left-skip : (r g : ℕ) → ((w : Path) → w .source ≡ g → w .bus ≡ b → f w ≡ false) → first f (pathsLeft n b r g 0) ≡ first f (pathsAfter n b (r + 1))
@@ -122,9 +122,9 @@ module _ (n b : ℕ) (f : Path → Bool) where
   pub left-next : (r g p : ℕ) → pathCount b g ≤ p → first f (pathsLeft n b r g p) ≡ first f (pathsAfter n b (r + 1))
   left-next r g p l = rw (paths-done n b g p l)
 
-  pub left-none : (r : ℕ) → 2 ≤ n → b < n → n ≤ r → first f (pathsAfter n b r) ≡ none
+  pub left-none : (r : ℕ) → b < n → n ≤ r → first f (pathsAfter n b r) ≡ none
   unfolding first flatMap
-  left-none r h hb l = let z : length (sources n b) ≤ r = omega (arith, sources-length n b h hb) in rw (drop-of-length-le (sources n b) z)
+  left-none r hb l = let z : length (sources n b) ≤ r = omega (arith, sources-length n b hb) in rw (drop-of-length-le (sources n b) z)
 
 -- a generator that is no candidate has no path that passes
 pub no-candidate : (n : ℕ) (usable : List Bool) (breakers owners : List ℕ) (b g : ℕ) → b < n → g < n → candidateBy usable owners b g ≡ false

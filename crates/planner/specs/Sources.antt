@@ -100,16 +100,6 @@ sources-from : (n j : ℕ) → suc (suc j) < n → sources n (suc (suc j)) ≡ 1
 unfolding sources
 sources-from n j h = rw (others-without n j h)
 
-pub sources-length : (n b : ℕ) → 2 ≤ n → b < n → length (sources n b) ≡ n
-unfolding sources
-sources-length n zero h hb = below-length n
-sources-length n (suc zero) h hb = rw (others-upward n h) (omega (arith, upward-length 2 (n - 2)))
-sources-length n (suc (suc j)) h hb =
-    let front = upward 2 j in
-    let back = upward (suc (suc (suc j))) (n - (j + 3)) in
-    ap length (sources-from n j hb)
-    ∙ omega (arith, length-append (front ++ back) (suc (suc j) ∷ []), length-append front back, upward-length 2 j, upward-length (suc (suc (suc j))) (n - (j + 3)))
-
 -- the rule finds the model's source
 pub source-at : (n b r : ℕ) → 2 ≤ n → b < n → r < n → sourceAt n b r ≡ getD (sources n b) r 0
 unfolding sourceAt sources

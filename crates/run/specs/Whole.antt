@@ -26,7 +26,7 @@ use Rattle.model.specs.Answers.{reportAt, fileAnswer}
 use Rattle.model.specs.Text.{header, transitionLine, reportLines, withReport, reportsOf, servedText, printedRun}
 use Rattle.model.specs.Laws.Tests.{dec}
 use Rattle.reports.specs.Reports.{within-both}
-use Rattle.transition.specs.Laws.{size-bounds}
+use Rattle.model.specs.Laws.Refusals.{size-bounds}
 use Rattle.run.specs.Lines.{startLine, startRing, lineOf, ringOf, reportLine, nextRing, linesFrom}
 
 -- ---- the reports of a served file are all read

@@ -16,7 +16,7 @@ use Rattle.model.specs.Reports.{commandsOf}
 use Rattle.model.specs.Laws.Tests.{contra, by-cond}
 use Rattle.model.specs.Laws.Lists.{_∈_, below-in, below-lt, any-none, keep-append}
 use Rattle.model.specs.Laws.Lists.{keep-map, keep-none}
-use Rattle.sheet.specs.Appended.{Appended, appended-none, appended-one}
+use Rattle.model.specs.Laws.Appended.{Appended, appended-none, appended-one}
 
 -- the codes of the opening phase
 abbrev pub openingCodes : ℕ → Commands → Commands → List ℕ

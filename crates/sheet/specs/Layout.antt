@@ -8,7 +8,7 @@ use Rattle.model.specs.declared.Part.{Part}
 use Rattle.model.specs.declared.Commands.{Commands}
 use Rattle.model.specs.Sheet.{sheetOf, sheet, written}
 use Rattle.model.specs.Reports.{commandsOf}
-use Rattle.sheet.specs.Appended.{Appended, appended-written}
+use Rattle.model.specs.Laws.Appended.{Appended, appended-written}
 use Rattle.sheet.specs.Codes.{openingCodes, closingCodes}
 
 -- the sheet of the codes of both phases

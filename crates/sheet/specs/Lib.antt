@@ -1,4 +1,3 @@
-pub mod Appended
 pub mod Codes
 pub mod Layout
 pub mod Writing

@@ -5,7 +5,7 @@ ghost use lib.ListN.{length, take, replicate};
 ghost use Rattle.model.specs.Lists.{below, anyOf};
 ghost use Rattle.model.specs.Reports.{commandsOf};
 ghost use Rattle.model.specs.Sheet.{sheet, written};
-ghost use Rattle.sheet.specs.Appended.{Appended};
+ghost use Rattle.model.specs.Laws.Appended.{Appended};
 ghost use Rattle.sheet.specs.Codes.{changes, opens, closes, codes, openingCodes, closingCodes};
 ghost use Rattle.sheet.specs.Layout.{layout};
 ghost use Rattle.sheet.specs.Writing.{roomOutcome, firstOutcome, writeOutcome, bufferAfter};

@@ -1,5 +1,4 @@
 pub mod Numbers
-pub mod Appended
 pub mod Spaced
 pub mod Buses
 pub mod Operations

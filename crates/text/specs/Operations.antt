@@ -19,7 +19,7 @@ use Rattle.model.specs.Plant.{largest}
 use Rattle.model.specs.Text.{ascii, decimal, spaced, kindName, partName, phaseText}
 use Rattle.model.specs.Laws.Tests.{dec-eq}
 use Rattle.model.specs.Laws.Lists.{_∈_}
-use Rattle.model.specs.Laws.Parts.{InRing}
+use Rattle.model.specs.Laws.Parts.{InRing, index-suc}
 use Rattle.text.specs.Numbers.{marked, marked-length}
 use Rattle.text.specs.Spaced.{behindSpaces, behind-spaced, behind-one}
 
@@ -48,22 +48,18 @@ phaseOf codes commands = operationsText (zipWith operationText codes commands)
 
 -- ---- the codes and the commands of parts give the model's text
 
-indexed : (k : ℕ) → 0 < k → suc (index k) ≡ k
-indexed zero h = absurd (omega arith)
-indexed (suc k) h = refl
-
 module _ (n : ℕ) (h : n ≤ largest) where
   kind : (p : Part) → InRing n p → kindOf (partCode p) ≡ kindName p
   unfolding kindOf partCode kindName
-  kind (Generator k) r = let e = indexed k (r .0) in rw (lt-ltb (0 + index k) 32 (omega arith))
-  kind (GeneratorBreaker k) r = let e = indexed k (r .0) in rw (le-ltb (32 + index k) 32 (omega arith), lt-ltb (32 + index k) 64 (omega arith))
+  kind (Generator k) r = let e = index-suc k (r .0) in rw (lt-ltb (0 + index k) 32 (omega arith))
+  kind (GeneratorBreaker k) r = let e = index-suc k (r .0) in rw (le-ltb (32 + index k) 32 (omega arith), lt-ltb (32 + index k) 64 (omega arith))
   kind (BusBreaker k) r = rw (le-ltb (64 + index k) 32 (omega arith), le-ltb (64 + index k) 64 (omega arith))
 
   numbered : (p : Part) → InRing n p → partCode p % 32 + 1 ≡ number p
   unfolding partCode
-  numbered (Generator k) r = omega (arith, indexed k (r .0))
-  numbered (GeneratorBreaker k) r = omega (arith, indexed k (r .0))
-  numbered (BusBreaker k) r = omega (arith, indexed k (r .0))
+  numbered (Generator k) r = omega (arith, index-suc k (r .0))
+  numbered (GeneratorBreaker k) r = omega (arith, index-suc k (r .0))
+  numbered (BusBreaker k) r = omega (arith, index-suc k (r .0))
 
   -- the parts of a phase, whose commands are all v
   module _ (v : ℕ) (s : String) (e : ascii s ≡ sign v ∷ []) where

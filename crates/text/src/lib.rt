@@ -9,7 +9,7 @@ ghost use Rattle.model.specs.Values.{choiceSource, choiceLetter};
 ghost use Rattle.model.specs.Sheet.{written};
 ghost use Rattle.model.specs.Text.{ascii, decimal, choiceText, busText, header as headerText, refusedText};
 ghost use Rattle.text.specs.Numbers.{marked};
-ghost use Rattle.text.specs.Appended.{Appended};
+ghost use Rattle.model.specs.Laws.Appended.{Appended};
 ghost use Rattle.text.specs.Spaced.{behindSpaces};
 ghost use Rattle.text.specs.Buses.{busBehindSpace, Named, AllNamed};
 ghost use Rattle.text.specs.Operations.{kindOf, sign as signOf, operationText, phaseOf};

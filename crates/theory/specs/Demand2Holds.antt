@@ -118,7 +118,8 @@ distinct-shorter {A} (d2.more {x = x} {xs = xs} g d) ys f = go (λ zs h. distinc
         let shorter = r (t .0 ++ t .1) (λ y m. other (t .0) (t .1) y m (List·Memᴰ·append-cases (t .0) (rw (t .2) at (f y (List·Memᴰ·tail m))))) in
         omega (arith, ap length (t .2), length-append (t .0) (x ∷ t .1), length-append (t .0) (t .1))
 
-sources-length : (n b : ℕ) → b < n → length (sources n b) ≡ n
+-- a bus tries as many generators as there are
+pub sources-length : (n b : ℕ) → b < n → length (sources n b) ≡ n
 sources-length n b hb =
     omega (
       arith,

@@ -64,16 +64,6 @@ up-lt n a b ha hb = go (up-cases n a b ha)
     go (fwd l e) = omega arith
     go (wrap l e) = omega arith
 
--- the two arcs between different buses make up the ring
-pub up-round : (n a b : ℕ) → a < n → b < n → a ≢ b → up n a b + up n b a ≡ n
-up-round n a b ha hb ne = go (up-cases n a b ha) (up-cases n b a hb)
-  where
-    go : Up n a b → Up n b a → up n a b + up n b a ≡ n
-    go (fwd l e) (fwd l₁ e₁) = absurd (ne (omega arith))
-    go (fwd l e) (wrap l₁ e₁) = omega arith
-    go (wrap l e) (fwd l₁ e₁) = omega arith
-    go (wrap l e) (wrap l₁ e₁) = absurd (omega arith)
-
 -- from a to i and on to b: as far as from a to b, or once round more
 pub up-triangle : (n a i b : ℕ) → a < n → i < n → b < n → (up n a i + up n i b ≡ up n a b) ⊎ (up n a i + up n i b ≡ up n a b + n)
 up-triangle n a i b ha hi hb = go (up-cases n a i ha) (up-cases n i b hi) (up-cases n a b ha)

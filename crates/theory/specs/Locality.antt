@@ -15,7 +15,8 @@ use Rattle.model.specs.Priority.{Path, pathBreakers, paths}
 use Rattle.model.specs.Choosing.{usable, countedClosed, isolated, permitted, choose, chosen, plan, commands, choiceOf, choices}
 use Rattle.model.specs.Sheet.{opening, closing, sheet}
 use Rattle.model.specs.Laws.Lists.{_∈_, all-cons, all-ext, first-ext, keep-ext, map-ext, below-lt}
-use Rattle.model.specs.Laws.Parts.{InRing, at-index, parts-at}
+use Rattle.model.specs.Reports.{healthOf, healthPlaces, commandsOf, commandPlaces}
+use Rattle.model.specs.Laws.Parts.{InRing, at-index, parts-at, health-places, command-places}
 use Rattle.theory.specs.Connected.{connected-ext}
 use Rattle.theory.specs.Paths.{Ends, path-in-ring, breakers-on, tried-at}
 use Rattle.theory.specs.Choosing.{safe-chosen}
@@ -71,6 +72,17 @@ module _ (n : ℕ) (H K : PartHealth) (same : Agree n H K) where
 pub commanded-in-ring : (n : ℕ) (H : PartHealth) (p : Part) → commands n H p ≡ true → InRing n p
 commanded-in-ring n H p e = let t = commanded-at n H p e in path-in-ring n (t .0) (safe-chosen n H n (omega arith) .ends (t .0) (t .1)) p (t .2)
 
+-- the arrays that a health is made of plan as it does
+module _ (n : ℕ) (small : n ≤ largest) (H : PartHealth) where
+  held : Agree n (healthOf (healthPlaces H)) H
+  held p r = health-places H p (r .0, omega (arith, r .1))
+
+  pub choices-held : choices n (healthOf (healthPlaces H)) ≡ choices n H
+  choices-held = choices-ext n (healthOf (healthPlaces H)) H held
+
+  pub commands-held : commands n (healthOf (healthPlaces H)) ≡ commands n H
+  commands-held = λ i p. commands-ext n (healthOf (healthPlaces H)) H held p i
+
 -- ---- the sheet
 
 module _ (n : ℕ) (C C′ D D′ : PartCommands) (olds : Agree n C C′) (news : Agree n D D′) where
@@ -85,6 +97,10 @@ module _ (n : ℕ) (C C′ D D′ : PartCommands) (olds : Agree n C C′) (news 
   pub sheet-ext : sheet n C D ≡ sheet n C′ D′
   unfolding sheet
   sheet-ext = rw (opening-ext, closing-ext)
+
+-- the arrays that commands are made of give the sheet that they give
+pub sheet-held : (n : ℕ) (C D : PartCommands) → n ≤ largest → sheet n C (commandsOf (commandPlaces D)) ≡ sheet n C D
+sheet-held n C D small = sheet-ext n C C (commandsOf (commandPlaces D)) D (λ p r. refl) (λ p r. command-places D p (r .0, omega (arith, r .1)))
 
 -- ---- the reckoning
 

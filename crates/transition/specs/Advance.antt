@@ -19,7 +19,8 @@ use Rattle.model.specs.Reports.{healthOf, healthPlaces, commandsOf, commandPlac
 use Rattle.model.specs.Refusals.{tooShort, nextSheet}
 use Rattle.model.specs.Answers.{Reply, allDark, refusedReply, servedReply}
 use Rattle.sheet.specs.Writing.{writeOutcome, bufferAfter}
-use Rattle.transition.specs.Laws.{served-refused, Sized, health-held, choices-held, commands-held, sheet-held, places-held}
+use Rattle.model.specs.Laws.Parts.{Sized, health-held, places-held}
+use Rattle.theory.specs.Locality.{choices-held, commands-held, sheet-held}
 
 -- a refused answer
 abbrev pub refusedAnswer : ℕ → Ring → RingAnswer

@@ -1,4 +1,3 @@
-pub mod Laws
 pub mod Words
 pub mod Advance
 pub mod Replies

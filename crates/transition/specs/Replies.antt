@@ -18,8 +18,7 @@ use Rattle.model.specs.Reports.{allFit, healthOf, healthPlaces, blankRing}
 use Rattle.model.specs.Refusals.{firstMet, sizeOutside, notOfRing, wordOfOtherKind, generatorFitAgain, tooShort, badRecord, nextSheet, nextHealth, reportConditions, startRefusal, stepRefusal}
 use Rattle.model.specs.Answers.{Reply, refusedReply, servedReply, startReply, stepReply}
 use Rattle.model.specs.Laws.Tests.{or-none}
-use Rattle.model.specs.Laws.Refusals.{inside}
-use Rattle.transition.specs.Laws.{served-refused, size-bounds}
+use Rattle.model.specs.Laws.Refusals.{inside, good-size, served-refused}
 use Rattle.sheet.specs.Writing.{roomOutcome, firstOutcome, writeOutcome}
 use Rattle.transition.specs.Advance.{refusedAnswer, replyBy, advanceReply, Gives, advance-held}
 
@@ -73,11 +72,6 @@ module _ (n : ℕ) (big : smallest ≤ n) (small : n ≤ largest) (buffer : List
         go false g = served-refused (ap (λ (x : RingAnswer). x .outcome) (g .0)) e
 
 -- ---- step
-
--- a record that is not refused has a size from 3 to 20
-pub good-size : (ring : Ring) → badRecord ring ≡ false → (smallest ≤ ring .n) × (ring .n ≤ largest)
-unfolding badRecord anyOf
-good-size ring good = size-bounds (ring .n) (or-none (sizeOutside (ring .n)) _ good .0)
 
 module _ (ring : Ring) (good : badRecord ring ≡ false) (r : Report) (buffer : List ℕ) where
   -- 5, 6 and 7 come before 8

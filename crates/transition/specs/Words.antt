@@ -17,8 +17,7 @@ use Rattle.model.specs.Values.{number, samePart, wordNumber}
 use Rattle.model.specs.Plant.{largest}
 use Rattle.model.specs.Reports.{places, healthOf, healthPlaces, reported}
 use Rattle.model.specs.Laws.Tests.{dec-eq}
-use Rattle.model.specs.Laws.Parts.{is-places}
-use Rattle.transition.specs.Laws.{Sized, places-of}
+use Rattle.model.specs.Laws.Parts.{is-places, places-of, Sized}
 
 -- what an array holds at each index once a value is stored at a number, from 1
 unfoldable pub withValue : List ℕ → ℕ → ℕ → ℕ → ℕ

@@ -5,7 +5,7 @@ use borrow.Author.Needs.{needs}
 use Rattle.model.specs.Plant.{largest, parts}
 use Rattle.model.specs.Reports.{healthOf}
 use Rattle.model.specs.Refusals.{sizeOutside, healthOutside}
-use Rattle.transition.specs.Laws.{size-bounds}
+use Rattle.model.specs.Laws.Refusals.{size-bounds}
 use Rattle.control.specs.Records.{differ-planned, bad-size, bad-health, bad-above, bad-commands}
 use Rattle.control.proofs.bad_record.Statement.{statement}
 use Rattle.control.proofs.bad_record.Tie as tie

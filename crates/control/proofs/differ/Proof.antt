@@ -8,7 +8,7 @@ use Rattle.model.specs.declared.Part.{Part}
 use Rattle.model.specs.Plant.{generator, generatorBreaker, busBreaker}
 use Rattle.model.specs.Reports.{commandsOf}
 use Rattle.model.specs.Laws.Parts.{InRing, ring-more}
-use Rattle.control.specs.Laws.{some-part, no-part}
+use Rattle.model.specs.Laws.Parts.{some-part, no-part}
 use Rattle.control.specs.Records.{differs, anyDiffer}
 use Rattle.control.proofs.differ.Statement.{statement}
 use Rattle.control.proofs.differ.Tie as tie

@@ -1,7 +1,7 @@
 -- `control::start` meets its contract: refused by 2, or as the inner start answers.
 use mathlib.Core.Path.{sym, _∙_, ap}
 use borrow.Author.Needs.{needs}
-use Rattle.transition.specs.Laws.{size-bounds}
+use Rattle.model.specs.Laws.Refusals.{size-bounds}
 use Rattle.transition.specs.Advance.{refusedAnswer}
 use Rattle.control.specs.Replies.{start-numbered, start-refused}
 use Rattle.control.proofs.start.Statement.{statement}

@@ -1,6 +1,6 @@
 -- Laws of parts, their codes, and the arrays that hold a value for each.
 use mathlib.Core.Path.{_≡_, refl, sym, _∙_, ap}
-use mathlib.Core.Bool.{true, false}
+use mathlib.Core.Bool.{Bool, true, false, cond}
 use mathlib.Core.Logic.{_⊎_, inl, inr, _≢_}
 use mathlib.Core.List.{List, [], _∷_, _++_, map, List·Memᴰ·append-cases, Memᴰ·append-left, Memᴰ·append-right}
 use Prim.Native.Nat.{ℕ, zero, suc, _+_, _*_, _≤_, _<_}
@@ -8,15 +8,16 @@ use native.Mathlib.Omega.{arith}
 use lib.Dec.{eqb}
 use lib.ListN.{length, getD, set, length-map, length-set, length-append}
 use lib.Seq.{ext-getD, getD-set-same, getD-set-other}
-use borrow.Author.Tests.{eqb-true, eq-eqb}
+use borrow.Author.Tests.{eqb-true, eq-eqb, ne-eqb}
 use Rattle.model.specs.declared.Part.{Part}
 use Rattle.model.specs.declared.Part.the-variants.{Generator, GeneratorBreaker, BusBreaker}
-use Rattle.model.specs.Lists.{below}
+use Rattle.model.specs.declared.Health.{Health}
+use Rattle.model.specs.Lists.{below, anyOf}
 use Rattle.model.specs.Values.{number, index, firstCode, partCode, samePart}
 use Rattle.model.specs.Plant.{PartHealth, PartCommands, largest, generator, generatorBreaker, busBreaker, parts}
 use Rattle.model.specs.Reports.{atNumber, places, healthOf, commandsOf, healthPlaces, commandPlaces}
 use Rattle.model.specs.Laws.Tests.{and-intro, dec-eq, contra}
-use Rattle.model.specs.Laws.Lists.{_∈_, below-in, below-lt, below-length, below-at, map-in, map-at, RisingBy, rising-append, rising-map, rising-mono, rising-below}
+use Rattle.model.specs.Laws.Lists.{_∈_, any-in, any-false, below-in, below-lt, below-length, below-at, map-in, map-at, RisingBy, rising-append, rising-map, rising-mono, rising-below}
 
 -- ---- one part
 
@@ -89,13 +90,22 @@ ring-more P i h a b c = go
     go (GeneratorBreaker k) m = kind GeneratorBreaker b k (λ l. h (GeneratorBreaker k) (m .0, l)) (m .1) (dec-eq k (suc i))
     go (BusBreaker k) m = kind BusBreaker c k (λ l. h (BusBreaker k) (m .0, l)) (m .1) (dec-eq k (suc i))
 
+-- a test that some part passes, and one that none does
+module _ (f : Part → Bool) (n : ℕ) where
+  pub some-part : (p : Part) → InRing n p → f p ≡ true → anyOf f (parts n) ≡ true
+  some-part p m e = any-in f (parts-in n p m) e
+
+  pub no-part : ((p : Part) → InRing n p → f p ≡ false) → anyOf f (parts n) ≡ false
+  no-part h = any-false f (parts n) (λ p m. h p (parts-at n p m))
+
 pub parts-length : (n : ℕ) → length (parts n) ≡ 3 * n
 unfolding parts
 parts-length n = simp (length-append, length-map, below-length) (omega arith)
 
 -- ---- codes
 
-index-suc : (k : ℕ) → 0 < k → suc (index k) ≡ k
+-- a number is the one after its index
+pub index-suc : (k : ℕ) → 0 < k → suc (index k) ≡ k
 index-suc zero h = absurd (omega arith)
 index-suc (suc k) h = refl
 
@@ -168,6 +178,19 @@ places-set f g k h = is-places g (set (places f) k (g k)) (g k) (length-set (pla
     at i l (inl e) = rw e (getD-set-same (places f) k (g k) (g k) (omega (arith, places-length f)))
     at i l (inr e) = getD-set-other (places f) k i (g k) (g k) e ∙ places-at f i (g k) l ∙ h i e
 
+-- a store into an array that holds f
+pub set-places : {A : Type 0} (f : ℕ → A) (x : A) (k : ℕ) → set (places f) k x ≡ places (λ i. cond (eqb i k) x (f i))
+set-places {A} f x k =
+    let e : g k ≡ x = rw (eq-eqb k k refl) in
+    rw e at (places-set f g k (λ i d. sym (rw (ne-eqb i k d))))
+  where
+    g : ℕ → A
+    g i = cond (eqb i k) x (f i)
+
+-- an array of 20 places holds what stands at each
+pub places-of : {A : Type 0} (l : List A) (d : A) → length l ≡ largest → l ≡ places (λ i. getD l i d)
+places-of l d e = is-places (λ i. getD l i d) l d e (λ i h. refl)
+
 -- what stands at a number of the array
 at-places : {A : Type 0} (f : ℕ → A) (d : A) (k : ℕ) → 0 < k → k ≤ largest → (g : ℕ → A) → ((i : ℕ) → g (suc i) ≡ f i) → atNumber d (places f) k ≡ g k
 at-places f d zero l h g e = absurd (omega arith)
@@ -185,3 +208,22 @@ unfolding commandsOf commandPlaces
 command-places C (Generator k) h = at-places (λ i. C (generator i)) false k (h .0) (h .1) (λ j. C (Generator j)) (λ i. refl)
 command-places C (GeneratorBreaker k) h = at-places (λ i. C (generatorBreaker i)) false k (h .0) (h .1) (λ j. C (GeneratorBreaker j)) (λ i. refl)
 command-places C (BusBreaker k) h = at-places (λ i. C (busBreaker i)) false k (h .0) (h .1) (λ j. C (BusBreaker j)) (λ i. refl)
+
+-- the arrays of a health have 20 places
+pub record Sized (h : Health) : Type 0 where
+  pub generators : length (h .generators) ≡ largest
+  pub generator-breakers : length (h .«generator_breakers») ≡ largest
+  pub bus-breakers : length (h .«bus_breakers») ≡ largest
+
+-- the arrays are what they hold
+pub health-held : (h : Health) → Sized h → h ≡ healthPlaces (healthOf h)
+unfolding healthPlaces healthOf
+health-held h s = λ i. record {
+  generators = places-of (h .generators) 0 (s .generators) i;
+  «generator_breakers» = places-of (h .«generator_breakers») 0 (s .generator-breakers) i;
+  «bus_breakers» = places-of (h .«bus_breakers») 0 (s .bus-breakers) i;
+}
+
+pub places-held : (H : PartHealth) → healthPlaces (healthOf (healthPlaces H)) ≡ healthPlaces H
+unfolding healthPlaces
+places-held H = sym (health-held (healthPlaces H) (record { generators = places-length _; generator-breakers = places-length _; bus-breakers = places-length _ }))

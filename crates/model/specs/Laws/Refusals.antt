@@ -3,13 +3,16 @@ use mathlib.Core.Path.{_≡_, sym, _∙_, ap}
 use mathlib.Core.Bool.{true, false, cond}
 use mathlib.Core.Logic.{_⊎_, inl, inr, _≢_}
 use Prim.Native.Nat.{ℕ, _≤_, _<_}
+use native.Mathlib.Omega.{arith}
 use lib.Dec.{ltb, eqb}
 use borrow.Author.Tests.{ltb-false, lt-ltb, le-ltb, ne-eqb}
+use Rattle.model.specs.declared.Ring.{Ring}
 use Rattle.model.specs.declared.Outcome.{Outcome}
 use Rattle.model.specs.declared.Outcome.the-variants as outcome
+use Rattle.model.specs.Lists.{anyOf}
 use Rattle.model.specs.Values.{outcomeNumber, outcomeOf}
 use Rattle.model.specs.Plant.{smallest, largest}
-use Rattle.model.specs.Refusals.{sizeOutside}
+use Rattle.model.specs.Refusals.{sizeOutside, badRecord}
 use Rattle.model.specs.Laws.Tests.{or-none, or-right, dec, dec-eq}
 
 -- the outcome that has a number has that number
@@ -22,9 +25,14 @@ outcome-number k = go (dec-eq k 0)
     go (inr e) = rw (outcomeOf, ne-eqb k 0 e)
 
 -- a size that is not refused
-pub size-inside : (n : ℕ) → sizeOutside n ≡ false → n ≤ largest
+pub size-bounds : (n : ℕ) → sizeOutside n ≡ false → (smallest ≤ n) × (n ≤ largest)
 unfolding sizeOutside
-size-inside n e = ltb-false largest n (or-none (ltb n smallest) (ltb largest n) e .1)
+size-bounds n e = let t = or-none (ltb n smallest) (ltb largest n) e in (ltb-false n smallest (t .0), ltb-false largest n (t .1))
+
+-- the size of a record that is not refused
+pub good-size : (ring : Ring) → badRecord ring ≡ false → (smallest ≤ ring .n) × (ring .n ≤ largest)
+unfolding badRecord anyOf
+good-size ring good = size-bounds (ring .n) (or-none (sizeOutside (ring .n)) _ good .0)
 
 pub outside : (n : ℕ) → (n < 3) ⊎ (20 < n) → sizeOutside n ≡ true
 unfolding sizeOutside
@@ -36,6 +44,10 @@ unfolding sizeOutside
 inside n p q = rw (le-ltb n 3, le-ltb 20 n)
 
 -- ---- outcomes
+
+-- no outcome is both served and refused
+pub served-refused : {A : Type 0} {k : ℕ} {o : Outcome} → o ≡ outcome.Served → o ≡ outcome.Refused k → A
+served-refused {k = k} {o} p q = let z : _≡_ {A = ℕ} 0 1 = cc in absurd (omega arith)
 
 -- o is the outcome of number k
 pub outcome-is : (k : ℕ) (o : Outcome) → o ≡ outcomeOf k → (o ≡ outcomeOf k) × (outcomeNumber o ≡ k)

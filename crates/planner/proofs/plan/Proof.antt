@@ -19,7 +19,7 @@ loop-again c =
     let q = c .before .before .before in
     let a = q .before .before .args in
     let e = c .before .serve .ensures in
-    (search auto, e, rw (q .loop .inv .2, e) (choices-more (a .n) (healthOf (a .health)) (q .loop .b) (search auto)))
+    (search auto, e, rw (q .loop .inv .2, e) (choices-more (a .n) (healthOf (a .health)) (q .loop .b)))
 
 returns : tie.Need-returns Inv-loop μ-loop
 returns c =

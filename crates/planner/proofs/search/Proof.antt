@@ -35,7 +35,7 @@ module _ (c : tie.After-source Inv-loop μ-loop Inv-sources μ-sources) where
   at-source : first tests (paths (c .before .before .before .args .n) (c .before .before .before .args .b)) ≡ first tests (pathsLeft (c .before .before .before .args .n) (c .before .before .before .args .b) (c .before .before .sources .r) (c .source .result) 0)
   at-source =
       let k = c .before .before in
-      k .sources .inv .2 ∙ left-source (k .before .args .n) (k .before .args .b) tests (k .sources .r) (c .source .result) (search auto) (search auto) (c .before .sources-test .taken) (c .source .ensures .0)
+      k .sources .inv .2 ∙ left-source (k .before .args .n) (k .before .args .b) tests (k .sources .r) (c .source .result) (search auto) (c .before .sources-test .taken) (c .source .ensures .0)
 
 loop-holds : tie.Need-loop-holds Inv-loop μ-loop Inv-sources μ-sources
 loop-holds c = let d = c .before .before .before .before in (search auto, d .before .before .sources .inv .1, at-source d)
@@ -88,7 +88,7 @@ returns : tie.Need-returns Inv-loop μ-loop Inv-sources μ-sources
 returns c =
     let k = c .before in
     let a = k .before .args in
-    rw (k .sources .inv .1) (sym (k .sources .inv .2 ∙ left-none (a .n) (a .b) _ (k .sources .r) (search auto) (search auto) (c .sources-test .left)))
+    rw (k .sources .inv .1) (sym (k .sources .inv .2 ∙ left-none (a .n) (a .b) _ (k .sources .r) (search auto) (c .sources-test .left)))
 
 returns-2 : tie.Need-returns-2 Inv-loop μ-loop Inv-sources μ-sources
 returns-2 c =

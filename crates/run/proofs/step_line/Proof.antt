@@ -1,7 +1,7 @@
 -- `run::step_line` meets its contract.
 use native.Mathlib.Omega.{arith}
 use borrow.Author.Needs.{needs}
-use Rattle.transition.specs.Replies.{good-size}
+use Rattle.model.specs.Laws.Refusals.{good-size}
 use Rattle.run.specs.Served.{step-ring, step-named, step-sheet, step-stored}
 use Rattle.run.proofs.step_line.Statement.{statement}
 use Rattle.run.proofs.step_line.Tie as tie

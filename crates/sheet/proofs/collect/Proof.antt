@@ -9,7 +9,7 @@ use lib.ListN.{getD}
 use borrow.Author.Tests.{not-true}
 use borrow.Author.Needs.{needs}
 use Rattle.model.specs.Lists.{below, keep}
-use Rattle.sheet.specs.Appended.{Appended, appended-none}
+use Rattle.model.specs.Laws.Appended.{Appended, appended-none}
 use Rattle.sheet.specs.Codes.{opens, closes, codes, turned-on, turned-off, kept, unchanged, codes-none, codes-miss, codes-hit}
 use Rattle.sheet.proofs.collect.Statement.{statement}
 use Rattle.sheet.proofs.collect.Tie as tie

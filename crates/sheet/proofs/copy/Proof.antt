@@ -7,7 +7,7 @@ use denote.Ref.{now}
 use lib.ListN.{length, take, length-set}
 use lib.Seq.{take-suc}
 use borrow.Author.Needs.{needs}
-use Rattle.sheet.specs.Appended.{Appended, appended-one}
+use Rattle.model.specs.Laws.Appended.{Appended, appended-one}
 use Rattle.sheet.proofs.copy.Statement.{statement}
 use Rattle.sheet.proofs.copy.Tie as tie
 

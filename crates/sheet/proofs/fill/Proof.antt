@@ -4,7 +4,7 @@ use Prim.Native.Nat.{_+_, _-_, _≤_}
 use native.Mathlib.Omega.{arith}
 use lib.ListN.{length, replicate, length-set, replicate-append-replicate}
 use borrow.Author.Needs.{needs}
-use Rattle.sheet.specs.Appended.{Appended, appended-one}
+use Rattle.model.specs.Laws.Appended.{Appended, appended-one}
 use Rattle.sheet.proofs.fill.Statement.{statement}
 use Rattle.sheet.proofs.fill.Tie as tie
 

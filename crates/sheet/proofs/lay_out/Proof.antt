@@ -6,7 +6,7 @@ use denote.Ref.{now}
 use lib.ListN.{length, set, take, length-set}
 use lib.Seq.{length-take-le}
 use borrow.Author.Needs.{needs}
-use Rattle.sheet.specs.Appended.{Appended, appended-more}
+use Rattle.model.specs.Laws.Appended.{Appended, appended-more}
 use Rattle.sheet.specs.Layout.{laid-out}
 use Rattle.sheet.proofs.lay_out.Statement.{statement}
 use Rattle.sheet.proofs.lay_out.Tie as tie

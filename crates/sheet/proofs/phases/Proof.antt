@@ -3,7 +3,7 @@ use native.Mathlib.Omega.{arith}
 use borrow.Author.Needs.{needs}
 use Rattle.model.specs.Sheet.{opening, closing}
 use Rattle.model.specs.Reports.{commandsOf}
-use Rattle.sheet.specs.Appended.{appended-more}
+use Rattle.model.specs.Laws.Appended.{appended-more}
 use Rattle.sheet.specs.Codes.{codes-parts}
 use Rattle.sheet.proofs.phases.Statement.{statement}
 use Rattle.sheet.proofs.phases.Tie as tie

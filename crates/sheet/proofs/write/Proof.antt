@@ -8,7 +8,7 @@ use lib.ListN.{length, take}
 use Rattle.model.specs.Sheet.{sheet, written}
 use Rattle.model.specs.Reports.{commandsOf}
 use Rattle.model.specs.Laws.Sheet.{sheet-fits}
-use Rattle.sheet.specs.Appended.{appended-length, appended-front}
+use Rattle.model.specs.Laws.Appended.{appended-length, appended-front}
 use Rattle.sheet.specs.Codes.{openingCodes, closingCodes}
 use Rattle.sheet.specs.Layout.{layout, sheet-layout, layout-length}
 use Rattle.sheet.specs.Writing.{writeOutcome, room-served}

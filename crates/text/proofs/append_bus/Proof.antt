@@ -5,7 +5,7 @@ use lib.ListN.{length-set}
 use borrow.Author.Needs.{needs}
 use Rattle.model.specs.Text.{ascii}
 use Rattle.text.specs.Numbers.{marked-length}
-use Rattle.text.specs.Appended.{appended-two, appended-more}
+use Rattle.model.specs.Laws.Appended.{appended-two, appended-more}
 use Rattle.text.proofs.append_bus.Statement.{statement}
 use Rattle.text.proofs.append_bus.Tie as tie
 

@@ -7,7 +7,7 @@ use lib.ListN.{length}
 use borrow.Author.Needs.{needs}
 use Rattle.model.specs.Lists.{below}
 use Rattle.model.specs.Text.{busText}
-use Rattle.text.specs.Appended.{Appended, appended-none, appended-more}
+use Rattle.model.specs.Laws.Appended.{Appended, appended-none, appended-more}
 use Rattle.text.specs.Spaced.{behindSpaces}
 use Rattle.text.specs.Buses.{buses-more, buses-length}
 use Rattle.text.proofs.append_buses.Statement.{statement}

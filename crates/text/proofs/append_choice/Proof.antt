@@ -3,7 +3,7 @@ use native.Mathlib.Omega.{arith}
 use lib.ListN.{length-set}
 use borrow.Author.Needs.{needs}
 use Rattle.model.specs.Text.{ascii}
-use Rattle.text.specs.Appended.{appended-byte, appended-more}
+use Rattle.model.specs.Laws.Appended.{appended-byte, appended-more}
 use Rattle.text.specs.Buses.{named-most, choice-dark, choice-named}
 use Rattle.text.proofs.append_choice.Statement.{statement}
 use Rattle.text.proofs.append_choice.Tie as tie

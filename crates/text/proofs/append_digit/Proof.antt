@@ -3,7 +3,7 @@ use native.Mathlib.Omega.{arith}
 use lib.ListN.{length-set}
 use borrow.Author.Needs.{needs}
 use Rattle.text.specs.Numbers.{decimal-digit}
-use Rattle.text.specs.Appended.{appended-two}
+use Rattle.model.specs.Laws.Appended.{appended-two}
 use Rattle.text.proofs.append_digit.Statement.{statement}
 use Rattle.text.proofs.append_digit.Tie as tie
 

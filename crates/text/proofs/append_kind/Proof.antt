@@ -4,7 +4,7 @@ use lib.ListN.{length-set}
 use borrow.Author.Needs.{needs}
 use borrow.Author.Tests.{lt-ltb, le-ltb}
 use Rattle.model.specs.Text.{ascii}
-use Rattle.text.specs.Appended.{appended-byte, appended-two}
+use Rattle.model.specs.Laws.Appended.{appended-byte, appended-two}
 use Rattle.text.specs.Operations.{kindOf}
 use Rattle.text.proofs.append_kind.Statement.{statement}
 use Rattle.text.proofs.append_kind.Tie as tie

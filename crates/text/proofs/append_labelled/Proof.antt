@@ -1,6 +1,6 @@
 -- `append_labelled`: the number follows the text.
 use borrow.Author.Needs.{needs}
-use Rattle.text.specs.Appended.{appended-more}
+use Rattle.model.specs.Laws.Appended.{appended-more}
 use Rattle.text.proofs.append_labelled.Statement.{statement}
 use Rattle.text.proofs.append_labelled.Tie as tie
 

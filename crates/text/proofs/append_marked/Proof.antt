@@ -4,7 +4,7 @@ use native.Mathlib.Omega.{arith}
 use lib.ListN.{length-set}
 use borrow.Author.Needs.{needs}
 use Rattle.text.specs.Numbers.{marked-more}
-use Rattle.text.specs.Appended.{appended-byte, appended-more}
+use Rattle.model.specs.Laws.Appended.{appended-byte, appended-more}
 use Rattle.text.proofs.append_marked.Statement.{statement}
 use Rattle.text.proofs.append_marked.Tie as tie
 

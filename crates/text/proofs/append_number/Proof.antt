@@ -4,7 +4,7 @@ use Prim.Native.Nat.{_+_, _/_, _%_, _≤_}
 use native.Mathlib.Omega.{arith}
 use borrow.Author.Needs.{needs}
 use Rattle.text.specs.Numbers.{decimal-digit, decimal-more, marked-length}
-use Rattle.text.specs.Appended.{appended-byte, appended-one}
+use Rattle.model.specs.Laws.Appended.{appended-byte, appended-one}
 use Rattle.text.proofs.append_number.Statement.{statement}
 use Rattle.text.proofs.append_number.Tie as tie
 

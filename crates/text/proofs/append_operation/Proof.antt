@@ -5,7 +5,7 @@ use denote.Ref.{now}
 use lib.ListN.{length, length-set}
 use borrow.Author.Needs.{needs}
 use Rattle.model.specs.Text.{ascii}
-use Rattle.text.specs.Appended.{appended-byte, appended-more}
+use Rattle.model.specs.Laws.Appended.{appended-byte, appended-more}
 use Rattle.text.specs.Operations.{operationText, kind-length}
 use Rattle.text.proofs.append_operation.Statement.{statement}
 use Rattle.text.proofs.append_operation.Tie as tie

@@ -7,7 +7,7 @@ use denote.Ref.{now}
 use lib.ListN.{length, take}
 use lib.Seq.{length-take-le}
 use borrow.Author.Needs.{needs}
-use Rattle.text.specs.Appended.{Appended, appended-none, appended-more}
+use Rattle.model.specs.Laws.Appended.{Appended, appended-none, appended-more}
 use Rattle.text.specs.Spaced.{behindSpaces}
 use Rattle.text.specs.Operations.{firstOperations, first-more, first-all, operations-length}
 use Rattle.text.proofs.append_operations.Statement.{statement}

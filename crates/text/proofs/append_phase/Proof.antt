@@ -5,7 +5,7 @@ use denote.Ref.{now}
 use lib.ListN.{length-set}
 use borrow.Author.Needs.{needs}
 use Rattle.model.specs.Text.{ascii}
-use Rattle.text.specs.Appended.{appended-two, appended-one, appended-more}
+use Rattle.model.specs.Laws.Appended.{appended-two, appended-one, appended-more}
 use Rattle.text.specs.Operations.{phase-none, phase-some}
 use Rattle.text.proofs.append_phase.Statement.{statement}
 use Rattle.text.proofs.append_phase.Tie as tie

@@ -2,7 +2,7 @@
 use native.Mathlib.Omega.{arith}
 use denote.Ref.{now}
 use borrow.Author.Needs.{needs}
-use Rattle.text.specs.Appended.{appended-more}
+use Rattle.model.specs.Laws.Appended.{appended-more}
 use Rattle.text.specs.SheetLine.{opening-length}
 use Rattle.text.proofs.append_phases.Statement.{statement}
 use Rattle.text.proofs.append_phases.Tie as tie

@@ -7,7 +7,7 @@ use denote.Ref.{now}
 use lib.ListN.{length, take, length-set}
 use lib.Seq.{take-suc, take-length}
 use borrow.Author.Needs.{needs}
-use Rattle.text.specs.Appended.{Appended, appended-one}
+use Rattle.model.specs.Laws.Appended.{Appended, appended-one}
 use Rattle.text.proofs.append_text.Statement.{statement}
 use Rattle.text.proofs.append_text.Tie as tie
 

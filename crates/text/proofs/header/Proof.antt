@@ -8,7 +8,7 @@ use lib.ListN.{length, set, length-set}
 use borrow.Author.Needs.{needs}
 use Rattle.model.specs.Text.{ascii, header}
 use Rattle.text.specs.Numbers.{decimal-length}
-use Rattle.text.specs.Appended.{Appended, appended-one, appended-more, appended-all}
+use Rattle.model.specs.Laws.Appended.{Appended, appended-one, appended-more, appended-all}
 use Rattle.text.specs.SheetLine.{header-fits}
 use Rattle.text.proofs.header.Statement.{statement}
 use Rattle.text.proofs.header.Tie as tie

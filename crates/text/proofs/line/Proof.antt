@@ -7,7 +7,7 @@ use lib.ListN.{length, set, length-set}
 use borrow.Author.Needs.{needs}
 use Rattle.model.specs.Text.{ascii}
 use Rattle.text.specs.Numbers.{decimal-length}
-use Rattle.text.specs.Appended.{Appended, appended-one, appended-more, appended-all}
+use Rattle.model.specs.Laws.Appended.{Appended, appended-one, appended-more, appended-all}
 use Rattle.text.specs.Buses.{buses-length}
 use Rattle.text.specs.SheetLine.{sheetLine, line-parts, line-length}
 use Rattle.text.proofs.line.Statement.{statement}

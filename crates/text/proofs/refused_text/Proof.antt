@@ -6,7 +6,7 @@ use denote.Ref.{now}
 use lib.ListN.{length, set, length-set}
 use borrow.Author.Needs.{needs}
 use Rattle.model.specs.Text.{ascii, refusedText}
-use Rattle.text.specs.Appended.{Appended, appended-one, appended-all}
+use Rattle.model.specs.Laws.Appended.{Appended, appended-one, appended-all}
 use Rattle.text.specs.SheetLine.{refused-fits}
 use Rattle.text.proofs.refused_text.Statement.{statement}
 use Rattle.text.proofs.refused_text.Tie as tie

@@ -1,6 +1,6 @@
 -- `transition::advance` meets its contract: the sheet is written from the ring's commands to those planned, or refused.
 use borrow.Author.Needs.{needs}
-use Rattle.transition.specs.Laws.{Sized}
+use Rattle.model.specs.Laws.Parts.{Sized}
 use Rattle.transition.specs.Advance.{advance-served, advance-refused}
 use Rattle.transition.proofs.advance.Statement.{statement}
 use Rattle.transition.proofs.advance.Tie as tie

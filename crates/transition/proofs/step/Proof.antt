@@ -1,6 +1,7 @@
 -- `transition::step` meets its contract: the checks of its report, and the ring taken to the health after the word.
 use borrow.Author.Needs.{needs}
-use Rattle.transition.specs.Replies.{good-size, step-advance}
+use Rattle.model.specs.Laws.Refusals.{good-size}
+use Rattle.transition.specs.Replies.{step-advance}
 use Rattle.transition.proofs.step.Statement.{statement}
 use Rattle.transition.proofs.step.Tie as tie
 

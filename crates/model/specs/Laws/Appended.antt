@@ -32,6 +32,13 @@ appended-more {xs} {ys} {l} {i = i} a b =
 pub appended-one : {xs zs l l′ : List ℕ} {i j k : ℕ} (x : ℕ) → zs ≡ xs ++ (x ∷ []) → k ≡ j + 1 → Appended xs l i l′ j → Appended zs l i (set l′ j x) k
 appended-one x e h a = rw (e, h) (appended-more a (record { stored = refl; end = refl }))
 
+-- one byte, and two
+pub appended-byte : (x : ℕ) (l : List ℕ) (i : ℕ) → Appended (x ∷ []) l i (set l i x) (i + 1)
+appended-byte x l i = record { stored = refl; end = refl }
+
+pub appended-two : (x y : ℕ) (l : List ℕ) (i : ℕ) → Appended (x ∷ y ∷ []) l i (set (set l i x) (i + 1) y) (i + 2)
+appended-two x y l i = appended-one y refl (omega arith) (appended-byte x l i)
+
 pub appended-length : {xs l l′ : List ℕ} {i j : ℕ} → Appended xs l i l′ j → length l′ ≡ length l
 appended-length {xs} {l} {i = i} a = ap length (a .stored) ∙ length-sets l i xs
 
@@ -40,6 +47,9 @@ module _ {xs l l′ : List ℕ} {j : ℕ} (a : Appended xs l 0 l′ j) (h : leng
   pub appended-written : l′ ≡ written xs l
   unfolding written
   appended-written = a .stored ∙ sets-eq xs l 0 (omega arith) ∙ rw zero-add
+
+  pub appended-all : (l′ ≡ written xs l) × (j ≡ length xs)
+  appended-all = (appended-written, omega (arith, a .end))
 
   pub appended-front : take j l′ ≡ xs
   unfolding written
