@@ -1,24 +1,19 @@
 -- The answers' numbers and values, and the answers that a call makes of an outcome.
-use mathlib.Core.Path.{_≡_, refl, sym, _∙_, ap}
-use mathlib.Core.Bool.{true, false, cond}
+use mathlib.Core.Path.{_≡_, refl, ap}
 use mathlib.Core.Logic.{_⊎_, inl, inr}
 use mathlib.Core.List.{[], _∷_}
 use mathlib.Core.Option.{Option, none, some}
 use Prim.Native.Nat.{ℕ, _+_, _≤_, _<_}
-use lib.Dec.{eqb}
 use Rattle.model.specs.declared.Part.{Part}
 use Rattle.model.specs.declared.Word.{Word}
-use Rattle.model.specs.declared.Outcome.{Outcome}
-use Rattle.model.specs.declared.Outcome.the-variants as outcome
 use Rattle.model.specs.declared.PartAnswer.{PartAnswer}
 use Rattle.model.specs.declared.PartAnswer.the-variants as part
 use Rattle.model.specs.declared.WordAnswer.{WordAnswer}
 use Rattle.model.specs.declared.WordAnswer.the-variants as word
-use Rattle.model.specs.Values.{number, firstCode, wordNumber, outcomeNumber, outcomeOf, partValues, wordValues}
+use Rattle.model.specs.Values.{number, firstCode, wordNumber, partValues, wordValues}
 use Rattle.model.specs.Plant.{largest}
 use Rattle.model.specs.Reports.{partNamed, wordNamed}
 use Rattle.model.specs.Answers.{partAnswer, wordAnswer}
-use Rattle.model.specs.Laws.Tests.{dec}
 use Rattle.model.specs.Laws.Parts.{InRing}
 use Rattle.model.specs.Laws.Reports.{code-named}
 use Rattle.reports.specs.Codes.{ofRing, in-range, outside-ranges, number-names, word-named, no-word}

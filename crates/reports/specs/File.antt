@@ -19,7 +19,7 @@ use Rattle.model.specs.Reports.{fileSize, fileCount, fileCodes, fileWords}
 use Rattle.model.specs.Refusals.{firstMet, orElse, sizeOutside, reportsRefusal, fileRefusal}
 use Rattle.model.specs.Answers.{fileAnswer}
 use Rattle.model.specs.Text.{servedText, refusedText, printedRun}
-use Rattle.model.specs.Laws.Tests.{dec, dec-lt, or-right, by-cond}
+use Rattle.model.specs.Laws.Tests.{dec, dec-lt, by-cond}
 use Rattle.model.specs.Laws.Refusals.{inside, outside, when-served, when-refused}
 
 -- r is the file's answer, and has the number of its refusal

@@ -1,9 +1,7 @@
 -- A ring taken to another health: served, or refused by 8.
 use mathlib.Core.Path.{_≡_, refl, _∙_}
-use mathlib.Core.Bool.{Bool, true, false, cond}
 use mathlib.Core.List.{List}
 use Prim.Native.Nat.{ℕ, _≤_}
-use lib.ListN.{length}
 use Rattle.model.specs.declared.Health.{Health}
 use Rattle.model.specs.declared.Commands.{Commands}
 use Rattle.model.specs.declared.Ring.{Ring}
@@ -14,10 +12,10 @@ use Rattle.model.specs.declared.Outcome.the-variants.{Served, Refused}
 use Rattle.model.specs.Values.{outcomeOf}
 use Rattle.model.specs.Plant.{PartHealth, largest}
 use Rattle.model.specs.Choosing.{choices, commands}
-use Rattle.model.specs.Sheet.{sheet, written}
+use Rattle.model.specs.Sheet.{sheet}
 use Rattle.model.specs.Reports.{healthOf, healthPlaces, commandsOf, commandPlaces, withPlan}
-use Rattle.model.specs.Refusals.{tooShort, nextSheet}
-use Rattle.model.specs.Answers.{Reply, allDark, refusedReply, servedReply}
+use Rattle.model.specs.Refusals.{nextSheet}
+use Rattle.model.specs.Answers.{Reply, allDark, servedReply}
 use Rattle.sheet.specs.Writing.{writeOutcome, bufferAfter}
 use Rattle.model.specs.Laws.Parts.{Sized, health-held, places-held}
 use Rattle.theory.specs.Locality.{choices-held, commands-held, sheet-held}

@@ -1,5 +1,5 @@
 -- The replies to a start and to a step, by the checks that they pass.
-use mathlib.Core.Path.{_≡_, refl, sym, _∙_, ap}
+use mathlib.Core.Path.{_≡_, refl, _∙_, ap}
 use mathlib.Core.Bool.{Bool, true, false, cond}
 use mathlib.Core.List.{List}
 use Prim.Native.Nat.{ℕ, _≤_}
@@ -11,13 +11,11 @@ use Rattle.model.specs.declared.Ring.{Ring}
 use Rattle.model.specs.declared.RingAnswer.{RingAnswer}
 use Rattle.model.specs.declared.Outcome.{Outcome}
 use Rattle.model.specs.declared.Outcome.the-variants.{Served, Refused}
-use Rattle.model.specs.Lists.{anyOf}
 use Rattle.model.specs.Values.{outcomeOf, wordNumber}
 use Rattle.model.specs.Plant.{smallest, largest}
 use Rattle.model.specs.Reports.{allFit, healthOf, healthPlaces, blankRing}
-use Rattle.model.specs.Refusals.{firstMet, sizeOutside, notOfRing, wordOfOtherKind, generatorFitAgain, tooShort, badRecord, nextSheet, nextHealth, reportConditions, startRefusal, stepRefusal}
+use Rattle.model.specs.Refusals.{firstMet, notOfRing, wordOfOtherKind, generatorFitAgain, tooShort, badRecord, nextSheet, nextHealth, reportConditions, startRefusal, stepRefusal}
 use Rattle.model.specs.Answers.{Reply, refusedReply, servedReply, startReply, stepReply}
-use Rattle.model.specs.Laws.Tests.{or-none}
 use Rattle.model.specs.Laws.Refusals.{inside, good-size, served-refused}
 use Rattle.sheet.specs.Writing.{roomOutcome, firstOutcome, writeOutcome}
 use Rattle.transition.specs.Advance.{refusedAnswer, replyBy, advanceReply, Gives, advance-held}

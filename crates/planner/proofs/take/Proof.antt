@@ -3,7 +3,6 @@ use Rattle.planner.proofs.Auto.{auto}
 use Rattle.planner.proofs.take.Statement.{statement}
 use Rattle.planner.proofs.take.Tie as tie
 use Rattle.model.specs.Reports.{healthOf}
-use Rattle.theory.specs.Paths.{pathTo}
 use Rattle.planner.specs.Search.{span-lt}
 use Rattle.planner.specs.Progress.{taken-by}
 

@@ -1,8 +1,6 @@
 -- Safe and ending: three bytes of the case for each bus.
 use borrow.Author.Needs.{needs}
 use Prim.Native.Nat.{_≤_, _-_}
-use mathlib.Core.Path.{_≡_}
-use lib.ListN.{length}
 use Rattle.vectors_plant.proofs.same_feeds.Statement.{statement}
 use Rattle.vectors_plant.proofs.same_feeds.Tie as tie
 
