@@ -22,9 +22,9 @@ use Rattle.model.specs.Plant.{PartHealth, largest, generator, generatorBreaker,
 use Rattle.model.specs.Priority.{Path, pathParts, paths}
 use Rattle.model.specs.Choosing.{onPaths, countedClosed, permitted, choose, addPath, chosen, plan, commands, choiceOf, choices}
 use Rattle.model.specs.Reports.{places, healthOf, commandPlaces}
-use Rattle.model.specs.Laws.Tests.{iff, dec, dec-eq, dec-lt}
+use Rattle.model.specs.Laws.Tests.{iff, dec, dec-eq, dec-lt, below-other, below-last}
 use Rattle.model.specs.Laws.Lists.{_∈_, any-at, any-in, first-at, first-ext}
-use Rattle.model.specs.Laws.Parts.{same-eq, same-refl, places-at, places-ext, set-places, is-places}
+use Rattle.model.specs.Laws.Parts.{same-eq, same-refl, places-at, places-ext, places-set, set-places, is-places}
 use Rattle.theory.specs.Geometry.{arc-at, arc-in}
 use Rattle.theory.specs.Connected.{connected-ext}
 use Rattle.theory.specs.Paths.{lower, Ends, lower-lt, path-at, path-in, source-on, breaker-on, line-on, generator-on, generator-breaker-on, bus-breaker-on, pathTo, tried-at}
@@ -267,15 +267,12 @@ module _ (n : ℕ) (H : PartHealth) where
 
   pub choices-more : (b : ℕ) → set (choicesTo n H b) b (served n H (b + 1) .last) ≡ choicesTo n H (b + 1)
   unfolding choicesTo served lastChoice
-  choices-more b = set-places (chosenTo b) _ b ∙ places-ext _ (chosenTo (b + 1)) (λ v l. each v (dec-eq v b) (dec-lt v b))
+  choices-more b =
+      let last : lastChoice n H (b + 1) ≡ choiceOf n (plan n H b) = rw (add-one b) in
+      rw last (rw (below-last (choiceOf n (plan n H b)) Dark b) at (places-set (chosenTo b) (chosenTo (b + 1)) b (λ v ne. rw (below-other (choiceOf n (plan n H v)) Dark v b ne))))
     where
       chosenTo : ℕ → ℕ → BusChoice
       chosenTo k v = record { choice = cond (ltb v k) (choiceOf n (plan n H v)) Dark }
-
-      each : (v : ℕ) → (v ≡ b) ⊎ (v ≢ b) → (v < b) ⊎ (b ≤ v) → cond (eqb v b) (record { choice = lastChoice n H (b + 1) }) (chosenTo b v) ≡ chosenTo (b + 1) v
-      each v (inl e) t = rw (eq-eqb v b e, e, lt-ltb b (b + 1) (omega arith), add-one b)
-      each v (inr e) (inl t) = rw (ne-eqb v b e, lt-ltb v b t, lt-ltb v (b + 1) (omega arith))
-      each v (inr e) (inr t) = rw (ne-eqb v b e, le-ltb v b t, le-ltb v (b + 1) (omega arith))
 
   pub choices-all : choicesTo n H n ≡ choices n H
   unfolding choicesTo choices places

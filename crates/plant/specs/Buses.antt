@@ -12,9 +12,8 @@ use Rattle.model.specs.declared.Feed.{Feed}
 use Rattle.model.specs.declared.Feed.the-variants.{Dark}
 use Rattle.model.specs.declared.BusFeed.{BusFeed}
 use Rattle.model.specs.Reports.{places}
-use Rattle.model.specs.Laws.Tests.{dec-lt}
-use Rattle.model.specs.Laws.Parts.{places-ext}
-use Rattle.model.specs.Laws.Parts.{places-set}
+use Rattle.model.specs.Laws.Tests.{below-other, below-last}
+use Rattle.model.specs.Laws.Parts.{places-ext, places-set}
 
 -- no bus is fed
 abbrev pub darkBuses : List BusFeed
@@ -35,11 +34,5 @@ module _ (f : ℕ → Feed) where
 
   pub buses-more : (k : ℕ) → set (feedsBelow f k) k (record { feed = f k }) ≡ feedsBelow f (k + 1)
   unfolding feedsBelow
-  buses-more k = rw (← here) (places-set (feedBelow f k) (feedBelow f (k + 1)) k (λ b ne. other b ne (dec-lt b k)))
-    where
-      here : feedBelow f (k + 1) k ≡ record { feed = f k }
-      here = rw (lt-ltb k (k + 1) (omega arith))
-
-      other : (b : ℕ) → b ≢ k → (b < k) ⊎ (k ≤ b) → feedBelow f k b ≡ feedBelow f (k + 1) b
-      other b ne (inl l) = rw (lt-ltb b k l, lt-ltb b (k + 1) (omega arith))
-      other b ne (inr l) = rw (le-ltb b k l, le-ltb b (k + 1) (omega arith))
+  buses-more k =
+      rw (below-last (f k) Dark k) at (places-set (feedBelow f k) (feedBelow f (k + 1)) k (λ b ne. rw (below-other (f b) Dark b k ne)))

@@ -5,10 +5,10 @@ use mathlib.Core.Logic.{_⊎_, inl, inr, _≢_}
 use mathlib.Core.List.{List, [], _∷_, _++_, map, List·Memᴰ·append-cases, Memᴰ·append-left, Memᴰ·append-right}
 use Prim.Native.Nat.{ℕ, zero, suc, _+_, _*_, _≤_, _<_}
 use native.Mathlib.Omega.{arith}
-use lib.Dec.{eqb}
-use lib.ListN.{length, getD, set, length-map, length-set, length-append}
+use lib.Dec.{eqb, ltb}
+use lib.ListN.{length, getD, set, replicate, length-map, length-set, length-append, length-replicate, getD-replicate}
 use lib.Seq.{ext-getD, getD-set-same, getD-set-other}
-use borrow.Author.Tests.{eqb-true, eq-eqb, ne-eqb}
+use borrow.Author.Tests.{eqb-true, eq-eqb, ne-eqb, lt-ltb, le-ltb}
 use Rattle.model.specs.declared.Part.{Part}
 use Rattle.model.specs.declared.Part.the-variants.{Generator, GeneratorBreaker, BusBreaker}
 use Rattle.model.specs.declared.Health.{Health}
@@ -16,7 +16,7 @@ use Rattle.model.specs.Lists.{below, anyOf}
 use Rattle.model.specs.Values.{number, index, firstCode, partCode, samePart}
 use Rattle.model.specs.Plant.{PartHealth, PartCommands, largest, generator, generatorBreaker, busBreaker, parts}
 use Rattle.model.specs.Reports.{atNumber, places, healthOf, commandsOf, healthPlaces, commandPlaces}
-use Rattle.model.specs.Laws.Tests.{and-intro, dec-eq, contra}
+use Rattle.model.specs.Laws.Tests.{and-intro, dec-eq, contra, below-other, below-last}
 use Rattle.model.specs.Laws.Lists.{_∈_, any-in, any-false, below-in, below-lt, below-length, below-at, map-in, map-at, RisingBy, rising-append, rising-map, rising-mono, rising-below}
 
 -- ---- one part
@@ -186,6 +186,20 @@ set-places {A} f x k =
   where
     g : ℕ → A
     g i = cond (eqb i k) x (f i)
+
+-- an array that is filled place by place: f below place i, and d from there on
+module _ {A : Type 0} (d : A) (f : ℕ → A) where
+  abbrev pub filledTo : ℕ → List A
+  filledTo i = places (λ j. cond (ltb j i) (f j) d)
+
+  pub filled-none : replicate largest d ≡ filledTo 0
+  filled-none = is-places _ (replicate largest d) d (length-replicate largest d) (λ j h. getD-replicate largest j d d h ∙ sym (rw (le-ltb j 0 (omega arith))))
+
+  pub filled-more : (i : ℕ) → set (filledTo i) i (f i) ≡ filledTo (i + 1)
+  filled-more i = rw (below-last (f i) d i) at (places-set _ (λ j. cond (ltb j (i + 1)) (f j) d) i (λ j ne. below-other (f j) d j i ne))
+
+  pub filled-all : filledTo largest ≡ places f
+  filled-all = places-ext _ f (λ j h. rw (lt-ltb j largest h))
 
 -- an array of 20 places holds what stands at each
 pub places-of : {A : Type 0} (l : List A) (d : A) → length l ≡ largest → l ≡ places (λ i. getD l i d)

@@ -2,7 +2,7 @@
 use mathlib.Core.Path.{_≡_, refl, sym}
 use mathlib.Core.Bool.{Bool, true, false, not, _&&_, _||_, cond}
 use mathlib.Core.Logic.{_≢_, _⊎_, inl, inr}
-use Prim.Native.Nat.{ℕ, _≤_, _<_}
+use Prim.Native.Nat.{ℕ, _+_, _≤_, _<_}
 use native.Mathlib.Omega.{arith}
 use native.Mathlib.Decide.{ℕ-discrete}
 use lib.Dec.{ltb}
@@ -76,3 +76,15 @@ cond-ext false z e = refl
 
 -- the tests of a path through the code, for `search tests`
 pub ruleset tests = (lt-ltb, le-ltb, le-leb, lt-leb, eq-eqb, ne-eqb)
+
+-- one index more below a bound: what is picked at another index stays, and at that index it is the first
+module _ {A : Type 0} (x y : A) where
+  pub below-other : (j k : ℕ) → j ≢ k → cond (ltb j k) x y ≡ cond (ltb j (k + 1)) x y
+  below-other j k ne = go (dec-lt j k)
+    where
+      go : (j < k) ⊎ (k ≤ j) → cond (ltb j k) x y ≡ cond (ltb j (k + 1)) x y
+      go (inl l) = rw (lt-ltb j k l, lt-ltb j (k + 1) (omega arith))
+      go (inr l) = rw (le-ltb j k l, le-ltb j (k + 1) (omega (arith, ne)))
+
+  pub below-last : (k : ℕ) → cond (ltb k (k + 1)) x y ≡ x
+  below-last k = rw (lt-ltb k (k + 1) (omega arith))

@@ -1,0 +1,71 @@
+// What the programs that run stored cases share: finding the cases, reading arrays from a case, comparing bytes, counting.
+ghost use mathlib.Core.Path.{_≡_};
+ghost use Prim.Native.Nat.{_+_, _≤_};
+ghost use lib.Dec.{eqb};
+ghost use lib.ListN.{length, getD};
+ghost use Rattle.model.specs.Values.{outcomeNumber};
+ghost use Rattle.model.specs.Reports.{places};
+ghost use Rattle.cases.specs.Bytes.{sameBytes};
+use libc::STDOUT_FILENO;
+use model::Outcome;
+
+// A descriptor of the stored cases, which the gate puts beside the program.
+pub fn open() -> i32 {
+    os::open_read(b"cases")
+}
+
+// Twenty bytes of a case.
+pub fn bytes_at(case: &[u8], from: usize) -> [u8; 20]
+    requires { ⌜ from + 20 ≤ length (now case) ⌝ }
+    ensures { λ r. ⌜ r ≡ places (λ i. getD (now (case .entry)) (from + i) 0) ⌝ }
+{
+    let mut bytes = [0u8; 20];
+    for i in 0..20 {
+        bytes[i] = case[from + i];
+    }
+    bytes
+}
+
+// Twenty commands of a case: 1 is on or closed.
+pub fn commands_at(case: &[u8], from: usize) -> [bool; 20]
+    requires { ⌜ from + 20 ≤ length (now case) ⌝ }
+    ensures { λ r. ⌜ r ≡ places (λ i. eqb (getD (now (case .entry)) (from + i) 0) 1) ⌝ }
+{
+    let mut commands = [false; 20];
+    for i in 0..20 {
+        commands[i] = case[from + i] == 1;
+    }
+    commands
+}
+
+// The number of an outcome, 0 where it is served.
+pub fn outcome_number(outcome: Outcome) -> u8
+    ensures { λ r. ⌜ r ≡ outcomeNumber outcome ⌝ }
+{
+    match outcome {
+        Outcome::Served => 0,
+        Outcome::Refused(k) => k,
+    }
+}
+
+// Whether two stretches of bytes are the same.
+pub fn same_bytes(ours: &[u8], expected: &[u8]) -> bool
+    ensures { λ r. ⌜ r ≡ sameBytes (now (ours .entry)) (now (expected .entry)) ⌝ }
+{
+    if ours.len() != expected.len() {
+        return false;
+    }
+    let mut same = true;
+    for i in 0..ours.len() {
+        same &= ours[i] == expected[i];
+    }
+    same
+}
+
+// Prints how many cases there were, and how many of them differ.
+pub fn print_counts(cases: u64, differ: u64) {
+    io::print_decimal(STDOUT_FILENO, cases);
+    io::write_all(STDOUT_FILENO, b" cases, ");
+    io::print_decimal(STDOUT_FILENO, differ);
+    io::write_all(STDOUT_FILENO, b" differ\n");
+}
