@@ -1,7 +1,7 @@
 #!/usr/bin/env python3
 """Makes the stored cases of the vector programs from the simulation in tests/simulation, never from our own programs.
 
-    tests/make_vectors.py            writes crates/vectors*/stdin and crates/vectors*/stdout
+    tests/make_vectors.py            writes crates/vectors*/data/cases and crates/vectors*/stdout
 
 runs    fault files and their printed runs: for each 2 bytes length of the file, low byte first, the file, the text, and a
         byte 0.
@@ -158,8 +158,8 @@ def steps(rng):
 
 def store(crate, cases):
     cases = list(cases)
-    os.makedirs(os.path.join(CRATES, crate), exist_ok=True)
-    with open(os.path.join(CRATES, crate, "stdin"), "wb") as out:
+    os.makedirs(os.path.join(CRATES, crate, "data"), exist_ok=True)
+    with open(os.path.join(CRATES, crate, "data", "cases"), "wb") as out:
         out.write(b"".join(cases))
     with open(os.path.join(CRATES, crate, "stdout"), "w") as out:
         out.write("%d cases, 0 differ\n" % len(cases))

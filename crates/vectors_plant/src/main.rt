@@ -1,42 +1,10 @@
-// Reckonings from standard input, held against the simulation's answers: see tests/make_vectors.py for the layout of a case.
+// Stored reckonings, held against the simulation's answers: see tests/make_vectors.py for the layout of a case.
 ghost use Prim.Native.Nat.{_≤_};
-use libc::STDIN_FILENO;
-use libc::STDOUT_FILENO;
 use model::BusFeed;
 use model::Commands;
 use model::Feed;
 use model::FeedsAnswer;
 use model::Health;
-use model::Outcome;
-
-// Twenty bytes of a case.
-fn bytes_at(case: &[u8; 182], from: usize) -> [u8; 20]
-    requires { ⌜ from ≤ 162 ⌝ }
-{
-    let mut bytes = [0u8; 20];
-    for i in 0..20 {
-        bytes[i] = case[from + i];
-    }
-    bytes
-}
-
-// Twenty commands of a case.
-fn commands_at(case: &[u8; 182], from: usize) -> [bool; 20]
-    requires { ⌜ from ≤ 162 ⌝ }
-{
-    let mut commands = [false; 20];
-    for i in 0..20 {
-        commands[i] = case[from + i] == 1;
-    }
-    commands
-}
-
-fn outcome_number(outcome: Outcome) -> u8 {
-    match outcome {
-        Outcome::Served => 0,
-        Outcome::Refused(k) => k,
-    }
-}
 
 // Whether a bus's answer is the three bytes: 0 dark, 1 fed, 2 a clash, and the generators named.
 fn same_feed(bus: BusFeed, kind: u8, first: u8, second: u8) -> bool {
@@ -60,18 +28,18 @@ fn same_feeds(answer: FeedsAnswer, case: &[u8; 182]) -> bool {
 
 fn agrees(case: &[u8; 182]) -> bool {
     let health = Health {
-        generators: bytes_at(case, 1),
-        generator_breakers: bytes_at(case, 21),
-        bus_breakers: bytes_at(case, 41),
+        generators: cases::bytes_at(case, 1),
+        generator_breakers: cases::bytes_at(case, 21),
+        bus_breakers: cases::bytes_at(case, 41),
     };
     let commands = Commands {
-        generators: commands_at(case, 61),
-        generator_breakers: commands_at(case, 81),
-        bus_breakers: commands_at(case, 101),
+        generators: cases::commands_at(case, 61),
+        generator_breakers: cases::commands_at(case, 81),
+        bus_breakers: cases::commands_at(case, 101),
     };
     let answer = plant::feeds(case[0], health, commands);
     let outcome = answer.outcome;
-    outcome_number(outcome) == case[121] && same_feeds(answer, case)
+    cases::outcome_number(outcome) == case[121] && same_feeds(answer, case)
 }
 
 // 1 where the answer is not the simulation's.
@@ -82,18 +50,16 @@ fn misses(case: &[u8; 182]) -> u64
 }
 
 fn main() {
+    let stored = cases::open();
     let mut cases: u64 = 0;
     let mut differ: u64 = 0;
     for _ in 0..100000usize {
         let mut case = [0u8; 182];
-        if io::read_full(STDIN_FILENO, &mut case) < 182 {
+        if io::read_full(stored, &mut case) < 182 {
             break;
         }
         cases += 1;
         differ += misses(&case);
     }
-    io::print_decimal(STDOUT_FILENO, cases);
-    io::write_all(STDOUT_FILENO, b" cases, ");
-    io::print_decimal(STDOUT_FILENO, differ);
-    io::write_all(STDOUT_FILENO, b" differ\n");
+    cases::print_counts(cases, differ);
 }

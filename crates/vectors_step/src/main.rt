@@ -1,54 +1,28 @@
-// Starts and steps from standard input, with damaged records and short buffers, held against the simulation's answers: see
+// Stored starts and steps, with damaged records and short buffers, held against the simulation's answers: see
 // tests/make_vectors.py for the layout of a case.
 ghost use Prim.Native.Nat.{_≤_};
-ghost use lib.ListN.{length};
-use libc::STDIN_FILENO;
-use libc::STDOUT_FILENO;
 use model::BusChoice;
 use model::Choice;
 use model::Commands;
 use model::Health;
-use model::Outcome;
 use model::Part;
 use model::Report;
 use model::Ring;
 use model::RingAnswer;
 use model::Word;
 
-// Twenty bytes of a case.
-fn bytes_at(case: &[u8; 288], from: usize) -> [u8; 20]
-    requires { ⌜ from ≤ 268 ⌝ }
-{
-    let mut bytes = [0u8; 20];
-    for i in 0..20 {
-        bytes[i] = case[from + i];
-    }
-    bytes
-}
-
-// Twenty commands of a case.
-fn commands_at(case: &[u8; 288], from: usize) -> [bool; 20]
-    requires { ⌜ from ≤ 268 ⌝ }
-{
-    let mut commands = [false; 20];
-    for i in 0..20 {
-        commands[i] = case[from + i] == 1;
-    }
-    commands
-}
-
 fn ring_of(case: &[u8; 288]) -> Ring {
     Ring {
         n: case[0],
         health: Health {
-            generators: bytes_at(case, 2),
-            generator_breakers: bytes_at(case, 22),
-            bus_breakers: bytes_at(case, 42),
+            generators: cases::bytes_at(case, 2),
+            generator_breakers: cases::bytes_at(case, 22),
+            bus_breakers: cases::bytes_at(case, 42),
         },
         commands: Commands {
-            generators: commands_at(case, 62),
-            generator_breakers: commands_at(case, 82),
-            bus_breakers: commands_at(case, 102),
+            generators: cases::commands_at(case, 62),
+            generator_breakers: cases::commands_at(case, 82),
+            bus_breakers: cases::commands_at(case, 102),
         },
     }
 }
@@ -67,13 +41,6 @@ fn word_of(number: u8) -> Word {
         1 => Word::StuckOff,
         2 => Word::StuckOpen,
         _ => Word::StuckClosed,
-    }
-}
-
-fn outcome_number(outcome: Outcome) -> u8 {
-    match outcome {
-        Outcome::Served => 0,
-        Outcome::Refused(k) => k,
     }
 }
 
@@ -97,22 +64,21 @@ fn same_choices(choices: [BusChoice; 20], case: &[u8; 288]) -> bool {
     same
 }
 
-fn same_bytes(values: [u8; 20], case: &[u8; 288], from: usize) -> bool
+// Whether an array is the twenty bytes of a case from an index on.
+fn same_bytes_at(values: [u8; 20], case: &[u8; 288], from: usize) -> bool
     requires { ⌜ from ≤ 268 ⌝ }
 {
-    let mut same = true;
-    for i in 0..20 {
-        same &= values[i] == case[from + i];
-    }
-    same
+    let expected = cases::bytes_at(case, from);
+    cases::same_bytes(&values, &expected)
 }
 
 fn same_commands(values: [bool; 20], case: &[u8; 288], from: usize) -> bool
     requires { ⌜ from ≤ 268 ⌝ }
 {
+    let expected = cases::commands_at(case, from);
     let mut same = true;
     for i in 0..20 {
-        same &= values[i] == (case[from + i] == 1);
+        same &= values[i] == expected[i];
     }
     same
 }
@@ -121,9 +87,9 @@ fn same_health(health: Health, case: &[u8; 288]) -> bool {
     let generators = health.generators;
     let generator_breakers = health.generator_breakers;
     let bus_breakers = health.bus_breakers;
-    same_bytes(generators, case, 128)
-        && same_bytes(generator_breakers, case, 148)
-        && same_bytes(bus_breakers, case, 168)
+    same_bytes_at(generators, case, 128)
+        && same_bytes_at(generator_breakers, case, 148)
+        && same_bytes_at(bus_breakers, case, 168)
 }
 
 fn same_standing(commands: Commands, case: &[u8; 288]) -> bool {
@@ -133,17 +99,6 @@ fn same_standing(commands: Commands, case: &[u8; 288]) -> bool {
     same_commands(generators, case, 188)
         && same_commands(generator_breakers, case, 208)
         && same_commands(bus_breakers, case, 228)
-}
-
-fn same_buffer(after: &[u8], expected: &[u8]) -> bool {
-    if after.len() != expected.len() {
-        return false;
-    }
-    let mut same = true;
-    for i in 0..after.len() {
-        same &= after[i] == expected[i];
-    }
-    same
 }
 
 // The case's call.
@@ -165,12 +120,12 @@ fn agrees(case: &[u8; 288], buffer: &mut [u8], expected: &[u8]) -> bool {
     let health = ring.health;
     let commands = ring.commands;
     let choices = answer.choices;
-    outcome_number(outcome) == case[126]
+    cases::outcome_number(outcome) == case[126]
         && ring.n == case[127]
         && same_health(health, case)
         && same_standing(commands, case)
         && same_choices(choices, case)
-        && same_buffer(buffer, expected)
+        && cases::same_bytes(buffer, expected)
 }
 
 fn wide(byte: u8) -> usize {
@@ -178,9 +133,9 @@ fn wide(byte: u8) -> usize {
 }
 
 // Reads the bytes that the buffer is to hold, which follow the case.
-fn read_expected(expected: &mut [u8], room: usize) {
+fn read_expected(stored: i32, expected: &mut [u8], room: usize) {
     if room <= expected.len() {
-        io::read_full(STDIN_FILENO, &mut expected[..room]);
+        io::read_full(stored, &mut expected[..room]);
     }
 }
 
@@ -196,13 +151,13 @@ fn compare(case: &[u8; 288], buffer: &mut [u8], expected: &[u8], room: usize) ->
 }
 
 // 1 where the answer, or the buffer after the call, is not the simulation's.
-fn misses(case: &[u8; 288]) -> u64
+fn misses(stored: i32, case: &[u8; 288]) -> u64
     ensures { λ r. ⌜ r ≤ 1 ⌝ }
 {
     let mut buffer = [170u8; 122];
     let mut expected = [0u8; 122];
     let room = wide(case[125]);
-    read_expected(&mut expected, room);
+    read_expected(stored, &mut expected, room);
     if compare(case, &mut buffer, &expected, room) {
         0
     } else {
@@ -211,18 +166,16 @@ fn misses(case: &[u8; 288]) -> u64
 }
 
 fn main() {
+    let stored = cases::open();
     let mut cases: u64 = 0;
     let mut differ: u64 = 0;
     for _ in 0..100000usize {
         let mut case = [0u8; 288];
-        if io::read_full(STDIN_FILENO, &mut case) < 288 {
+        if io::read_full(stored, &mut case) < 288 {
             break;
         }
         cases += 1;
-        differ += misses(&case);
+        differ += misses(stored, &case);
     }
-    io::print_decimal(STDOUT_FILENO, cases);
-    io::write_all(STDOUT_FILENO, b" cases, ");
-    io::print_decimal(STDOUT_FILENO, differ);
-    io::write_all(STDOUT_FILENO, b" differ\n");
+    cases::print_counts(cases, differ);
 }

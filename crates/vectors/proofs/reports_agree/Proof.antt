@@ -8,10 +8,10 @@ use Rattle.vectors.proofs.reports_agree.Statement.{statement}
 use Rattle.vectors.proofs.reports_agree.Tie as tie
 
 abbrev Inv-loop : tie.InvT-loop
-Inv-loop codes words ring₀ same₀ i₀ i-end ring same i = (badRecord ring ≡ false) × (i ≤ i-end) × (i-end ≤ 4096)
+Inv-loop stored codes words ring₀ same₀ i₀ i-end ring same i = (badRecord ring ≡ false) × (i ≤ i-end) × (i-end ≤ 4096)
 
 abbrev μ-loop : tie.MeasureT-loop
-μ-loop codes words ring₀ same₀ i₀ i-end ring same i = i-end - i
+μ-loop stored codes words ring₀ same₀ i₀ i-end ring same i = i-end - i
 
 loop-again : tie.Need-loop-again Inv-loop μ-loop
 loop-again c = search (needs, c .before .before .before .before .report-line .ensures .0 .1)
