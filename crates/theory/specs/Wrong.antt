@@ -274,19 +274,19 @@ callsOf [] = nothing
 callsOf (r ∷ rs) = callsOf rs then step r room
 
 -- the reports of a case, the last first
-case : Design → ℕ → List Report → Case
+abbrev case : Design → ℕ → List Report → Case
 case d n rs = record { design = d; size = n; reports = rs }
 
-generator1Off : Report
+abbrev generator1Off : Report
 generator1Off = record { part = Generator 1; word = StuckOff }
 
-breaker2Open : Report
+abbrev breaker2Open : Report
 breaker2Open = record { part = BusBreaker 2; word = StuckOpen }
 
-breaker2Fit : Report
+abbrev breaker2Fit : Report
 breaker2Fit = record { part = BusBreaker 2; word = Fit }
 
-breaker1Closed : Report
+abbrev breaker1Closed : Report
 breaker1Closed = record { part = BusBreaker 1; word = StuckClosed }
 
 -- the wrong controllers, each with reports after which it shows
@@ -310,7 +310,7 @@ pub record Fails : Type 0 where
   pub clash : Bool
   pub answer : Bool
 
-fails : Bool → Bool → Bool → Fails
+abbrev fails : Bool → Bool → Bool → Fails
 fails e c a = record { end = e; clash = c; answer = a }
 
 failsOf : Case → Fails
@@ -318,12 +318,28 @@ failsOf k =
     let c = designController (k .design) in
     fails (endTest c (k .size) room (callsOf (k .reports))) (clashTest c (k .size) room (callsOf (k .reports))) (answerTest c (k .size) room (callsOf (k .reports)))
 
--- the design of document 01 fails none of the tests, where a wrong one fails
-passes : failsOf (case right 3 (breaker2Fit ∷ breaker2Open ∷ [])) ≡ fails false false false
-unfolding wrongs case failsOf fails designController designReply designCommands right allBusesDark givesUp emptyPhases repeatsStart onePlan miscounts closesFirst stuckClosedOpen breakerBehind highFirst anyFault chosenBy planBy callsOf room generator1Off breaker2Open breaker2Fit breaker1Closed endTest clashTest answerTest onWorld betweenPhases answerFails sizesFail choiceNumber clashFails busFails isDark feedNumber isClash run afterCall worldAfter decode phasesAt operations withOperation commandNamed performAll perform afterWords afterWord earlier refusedReply firstMet reportConditions notOfRing wordOfOtherKind generatorFitAgain blankRing commandPlaces healthPlaces commandsOf healthOf places reported partNamed outcomeOf partCode samePart allDark written sheet sheetOf opening closing choices choiceOf commands plan chosen addPath choose permitted isolated countedClosed usable onPaths paths pathsFrom highRises pathParts pathBreakers pathBusBreakers sources others flatMap busFeed feedBy feeders feeds connected arc up next parts healthOfKind allOf anyOf first keep below
-passes = refl
+-- a case's size is a ring's, and the tests that it fails refute demand 3, or demand 2
+abbrev refuted3 : Case → Bool
+refuted3 k = leb smallest (k .size) && leb (k .size) largest && (failsOf k .end || failsOf k .clash || failsOf k .answer)
 
-computed : map failsOf wrongs ≡
+abbrev refuted2 : Case → Bool
+refuted2 k = leb smallest (k .size) && leb (k .size) largest && failsOf k .answer
+
+-- those that document 01 holds against demand 2
+pub wrongs2 : List Case
+wrongs2 =
+    case allBusesDark 3 []
+    ∷ case givesUp 3 []
+    ∷ case emptyPhases 3 []
+    ∷ case repeatsStart 3 (generator1Off ∷ [])
+    ∷ case onePlan 3 (breaker2Open ∷ [])
+    ∷ case miscounts 3 []
+    ∷ case highFirst 5 []
+    ∷ []
+
+-- every computed fact, by one evaluation: the design of document 01 fails no test; the tests that each wrong one fails; so each is refuted
+computed : (failsOf (case right 3 (breaker2Fit ∷ breaker2Open ∷ [])) ≡ fails false false false)
+    × (map failsOf wrongs ≡
     fails true false true
     ∷ fails true false true
     ∷ fails true false true
@@ -334,9 +350,17 @@ computed : map failsOf wrongs ≡
     ∷ fails true true true
     ∷ fails true false true
     ∷ fails false false true
-    ∷ []
-unfolding wrongs case failsOf fails designController designReply designCommands right allBusesDark givesUp emptyPhases repeatsStart onePlan miscounts closesFirst stuckClosedOpen breakerBehind highFirst anyFault chosenBy planBy callsOf room generator1Off breaker2Open breaker2Fit breaker1Closed endTest clashTest answerTest onWorld betweenPhases answerFails sizesFail choiceNumber clashFails busFails isDark feedNumber isClash run afterCall worldAfter decode phasesAt operations withOperation commandNamed performAll perform afterWords afterWord earlier refusedReply firstMet reportConditions notOfRing wordOfOtherKind generatorFitAgain blankRing commandPlaces healthPlaces commandsOf healthOf places reported partNamed outcomeOf partCode samePart allDark written sheet sheetOf opening closing choices choiceOf commands plan chosen addPath choose permitted isolated countedClosed usable onPaths paths pathsFrom highRises pathParts pathBreakers pathBusBreakers sources others flatMap busFeed feedBy feeders feeds connected arc up next parts healthOfKind allOf anyOf first keep below
-computed = refl
+    ∷ [])
+    × (allOf refuted3 wrongs ≡ true)
+    × (allOf refuted2 wrongs2 ≡ true)
+unfolding wrongs2 wrongs failsOf designController designReply designCommands right allBusesDark givesUp emptyPhases repeatsStart onePlan miscounts closesFirst
+    stuckClosedOpen breakerBehind highFirst anyFault chosenBy planBy callsOf room endTest clashTest answerTest onWorld betweenPhases answerFails sizesFail
+    choiceNumber clashFails busFails isDark feedNumber isClash run afterCall worldAfter decode phasesAt operations withOperation commandNamed performAll
+    perform afterWords afterWord earlier refusedReply firstMet reportConditions notOfRing wordOfOtherKind generatorFitAgain blankRing commandPlaces
+    healthPlaces commandsOf healthOf places reported partNamed outcomeOf partCode samePart allDark written sheet sheetOf opening closing choices choiceOf
+    commands plan chosen addPath choose permitted isolated countedClosed usable onPaths paths pathsFrom highRises pathParts pathBreakers pathBusBreakers
+    sources others flatMap busFeed feedBy feeders feeds connected arc up next parts healthOfKind allOf anyOf first keep below
+computed = (refl, refl, refl, refl)
 
 -- ---- a failed test refutes demand 3
 
@@ -547,35 +571,8 @@ refutes2 d n big small calls e demand = answer-refutes (designController d) n ro
 
 -- ---- none of the wrong controllers meets the demands
 
--- a case's size is a ring's, and the tests that it fails refute demand 3, or demand 2
-refuted3 : Case → Bool
-refuted3 k = leb smallest (k .size) && leb (k .size) largest && (failsOf k .end || failsOf k .clash || failsOf k .answer)
-
-refuted2 : Case → Bool
-refuted2 k = leb smallest (k .size) && leb (k .size) largest && failsOf k .answer
-
 pub controllerOf : Case → Controller
 controllerOf k = designController (k .design)
-
-all-refuted3 : allOf refuted3 wrongs ≡ true
-unfolding refuted3 wrongs case failsOf fails designController designReply designCommands right allBusesDark givesUp emptyPhases repeatsStart onePlan miscounts closesFirst stuckClosedOpen breakerBehind highFirst anyFault chosenBy planBy callsOf room generator1Off breaker2Open breaker2Fit breaker1Closed endTest clashTest answerTest onWorld betweenPhases answerFails sizesFail choiceNumber clashFails busFails isDark feedNumber isClash run afterCall worldAfter decode phasesAt operations withOperation commandNamed performAll perform afterWords afterWord earlier refusedReply firstMet reportConditions notOfRing wordOfOtherKind generatorFitAgain blankRing commandPlaces healthPlaces commandsOf healthOf places reported partNamed outcomeOf partCode samePart allDark written sheet sheetOf opening closing choices choiceOf commands plan chosen addPath choose permitted isolated countedClosed usable onPaths paths pathsFrom highRises pathParts pathBreakers pathBusBreakers sources others flatMap busFeed feedBy feeders feeds connected arc up next parts healthOfKind allOf anyOf first keep below
-all-refuted3 = refl
-
--- those that document 01 holds against demand 2
-pub wrongs2 : List Case
-wrongs2 =
-    case allBusesDark 3 []
-    ∷ case givesUp 3 []
-    ∷ case emptyPhases 3 []
-    ∷ case repeatsStart 3 (generator1Off ∷ [])
-    ∷ case onePlan 3 (breaker2Open ∷ [])
-    ∷ case miscounts 3 []
-    ∷ case highFirst 5 []
-    ∷ []
-
-all-refuted2 : allOf refuted2 wrongs2 ≡ true
-unfolding refuted2 wrongs2 case failsOf fails designController designReply designCommands right allBusesDark givesUp emptyPhases repeatsStart onePlan miscounts closesFirst stuckClosedOpen breakerBehind highFirst anyFault chosenBy planBy callsOf room generator1Off breaker2Open breaker2Fit breaker1Closed endTest clashTest answerTest onWorld betweenPhases answerFails sizesFail choiceNumber clashFails busFails isDark feedNumber isClash run afterCall worldAfter decode phasesAt operations withOperation commandNamed performAll perform afterWords afterWord earlier refusedReply firstMet reportConditions notOfRing wordOfOtherKind generatorFitAgain blankRing commandPlaces healthPlaces commandsOf healthOf places reported partNamed outcomeOf partCode samePart allDark written sheet sheetOf opening closing choices choiceOf commands plan chosen addPath choose permitted isolated countedClosed usable onPaths paths pathsFrom highRises pathParts pathBreakers pathBusBreakers sources others flatMap busFeed feedBy feeders feeds connected arc up next parts healthOfKind allOf anyOf first keep below
-all-refuted2 = refl
 
 module _ (k : Case) where
   -- the size of a refuted case
@@ -588,17 +585,22 @@ module _ (k : Case) where
 
   -- none of the wrong controllers meets demand 3
   pub none-meets-3 : k ∈ wrongs → Demand3 (controllerOf k) → ⊥
-  unfolding refuted3 failsOf fails controllerOf c
-  none-meets-3 m d = let t = size-at _ (all-at refuted3 wrongs all-refuted3 k m) in refutes3 (k .design) (k .size) (t .0) (t .1) (callsOf (k .reports)) (t .2) d
+  unfolding failsOf controllerOf c
+  none-meets-3 m d = let t = size-at _ (all-at refuted3 wrongs (computed .2) k m) in refutes3 (k .design) (k .size) (t .0) (t .1) (callsOf (k .reports)) (t .2) d
 
   -- nor demand 2, of those that document 01 holds against it
   pub none-meets-2 : k ∈ wrongs2 → Demand2 (controllerOf k) → ⊥
-  unfolding refuted2 failsOf fails controllerOf
-  none-meets-2 m d = let t = size-at _ (all-at refuted2 wrongs2 all-refuted2 k m) in refutes2 (k .design) (k .size) (t .0) (t .1) (callsOf (k .reports)) (t .2) d
+  unfolding failsOf controllerOf
+  none-meets-2 m d = let t = size-at _ (all-at refuted2 wrongs2 (computed .3) k m) in refutes2 (k .design) (k .size) (t .0) (t .1) (callsOf (k .reports)) (t .2) d
 
 -- ---- the exception is needed
 
 -- n = 3 after the start, BB1 stuck closed: before the first operation, at an excepted moment, B1 is fed by two generators
 exception-needed : (P : PlantState) × Interrupted controller 3 room (nothing then step breaker1Closed room) P true × (busFeed 3 (P .health) (P .last) 0 ≡ feed.Clash 1 2)
-unfolding stepReply stepRefusal badRecord healthOutside activeAbove unplanned excepted startReply servedReply startRefusal nextSheet tooShort withPlan sizeOutside failsOf fails designController designReply designCommands right allBusesDark givesUp emptyPhases repeatsStart onePlan miscounts closesFirst stuckClosedOpen breakerBehind highFirst anyFault chosenBy planBy callsOf room generator1Off breaker2Open breaker2Fit breaker1Closed endTest clashTest answerTest onWorld betweenPhases answerFails sizesFail choiceNumber clashFails busFails isDark feedNumber isClash run afterCall worldAfter decode phasesAt operations withOperation commandNamed performAll perform afterWords afterWord earlier refusedReply firstMet reportConditions notOfRing wordOfOtherKind generatorFitAgain blankRing commandPlaces healthPlaces commandsOf healthOf places reported partNamed outcomeOf partCode samePart allDark written sheet sheetOf opening closing choices choiceOf commands plan chosen addPath choose permitted isolated countedClosed usable onPaths paths pathsFrom highRises pathParts pathBreakers pathBusBreakers sources others flatMap busFeed feedBy feeders feeds connected arc up next parts healthOfKind allOf anyOf first keep below
+unfolding stepReply stepRefusal badRecord healthOutside activeAbove unplanned excepted startReply servedReply startRefusal nextSheet tooShort withPlan
+    sizeOutside room run afterCall worldAfter decode phasesAt operations withOperation commandNamed performAll perform afterWords afterWord earlier
+    refusedReply firstMet reportConditions notOfRing wordOfOtherKind generatorFitAgain blankRing commandPlaces healthPlaces commandsOf healthOf places
+    reported partNamed outcomeOf partCode samePart allDark written sheet sheetOf opening closing choices choiceOf commands plan chosen addPath choose
+    permitted isolated countedClosed usable onPaths paths pathsFrom highRises pathParts pathBreakers pathBusBreakers sources others flatMap busFeed feedBy
+    feeders feeds connected arc up next parts healthOfKind allOf anyOf first keep below
 exception-needed = (_, in-call (step breaker1Closed room) whole (run-ended controller 3 room nothing _ refl) refl refl (in-first [] (Permᴰ·refl _)), refl)
