@@ -27,7 +27,8 @@ use Rattle.model.specs.Laws.Lists.{_∈_, any-at, any-in, first-at, first-ext}
 use Rattle.model.specs.Laws.Parts.{same-eq, same-refl, places-at, places-ext, places-set, set-places, is-places}
 use Rattle.theory.specs.Geometry.{arc-at, arc-in}
 use Rattle.theory.specs.Connected.{connected-ext}
-use Rattle.theory.specs.Paths.{lower, Ends, lower-lt, path-at, path-in, source-on, breaker-on, line-on, generator-on, generator-breaker-on, bus-breaker-on, pathTo, tried-at}
+use Rattle.theory.specs.Paths.{lower, Ends, lower-lt, path-at, path-in, source-on, breaker-on, line-on, generator-on, generator-breaker-on, bus-breaker-on}
+use Rattle.theory.specs.Paths.{pathTo, tried-at}
 use Rattle.theory.specs.Choosing.{safe-chosen, chosen-ends}
 use Rattle.planner.specs.declared.Progress.{Progress}
 use Rattle.planner.specs.declared.Span.{Span}

@@ -17,7 +17,8 @@ use Rattle.model.specs.Choosing.{permitted, addPath, choiceOf}
 use Rattle.model.specs.Answers.{Reply}
 use Rattle.model.specs.Laws.Lists.{_∈_, RisingBy}
 use Rattle.model.specs.Laws.Parts.{InRing}
-use Rattle.theory.specs.Demand3.{Controller, PlantState, freshPlant, afterWords, Operation, Phases, decode, Calls, Call, Ended, World, Performed, replyTo, words, isServed}
+use Rattle.theory.specs.Demand3.{Controller, PlantState, freshPlant, afterWords, Operation, Phases, decode, Calls, Call, Ended, World, Performed, replyTo}
+use Rattle.theory.specs.Demand3.{words, isServed}
 
 -- a list without repeats
 pub data Distinct {A : Type 0} : List A → Type 0 where

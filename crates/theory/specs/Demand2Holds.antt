@@ -2,7 +2,8 @@
 use mathlib.Core.Path.{_≡_, refl, sym, _∙_, ap}
 use mathlib.Core.Bool.{Bool, true, false, not, _&&_, cond}
 use mathlib.Core.Logic.{_≢_, _⊎_, inl, inr, _↔_}
-use mathlib.Core.List.{List, [], _∷_, _++_, map, flatMap, List·Memᴰ·head, List·Memᴰ·tail, List·Memᴰ·not-nil, List·Memᴰ·cases-cons, List·Memᴰ·append-cases, List·Memᴰ·eq-of-singleton, Memᴰ·append-left, Memᴰ·append-right, Memᴰ·cast}
+use mathlib.Core.List.{List, [], _∷_, _++_, map, flatMap, List·Memᴰ·head, List·Memᴰ·tail, List·Memᴰ·not-nil, List·Memᴰ·cases-cons, List·Memᴰ·append-cases}
+use mathlib.Core.List.{List·Memᴰ·eq-of-singleton, Memᴰ·append-left, Memᴰ·append-right, Memᴰ·cast}
 use mathlib.Core.Option.{Option, some}
 use Prim.Native.Nat.{ℕ, zero, suc, _+_, _*_, _≤_, _<_}
 use native.Mathlib.Omega.{arith}
@@ -19,7 +20,8 @@ use Rattle.model.specs.Choosing.{permitted, choose, chosen, plan, commands}
 use Rattle.model.specs.Sheet.{opening, closing}
 use Rattle.model.specs.Answers.{Reply}
 use Rattle.model.specs.Laws.Tests.{contra, dec, dec-eq}
-use Rattle.model.specs.Laws.Lists.{_∈_, all-cons, below-in, below-lt, below-length, keep-at, map-in, flat-at, RisingBy, empty, more, rising-below, rising-keep, rising-map}
+use Rattle.model.specs.Laws.Lists.{_∈_, all-cons, below-in, below-lt, below-length, keep-at, map-in, flat-at, RisingBy, empty, more, rising-below, rising-keep}
+use Rattle.model.specs.Laws.Lists.{rising-map}
 use Rattle.model.specs.Laws.Parts.{InRing, parts-rise}
 use Rattle.theory.specs.Paths.{sources-in, sources-at, others-at, from-at}
 use Rattle.theory.specs.Choosing.{on-in}

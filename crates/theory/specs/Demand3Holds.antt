@@ -27,7 +27,8 @@ use Rattle.model.specs.Priority.{Path, highRises}
 use Rattle.model.specs.Choosing.{commands, choices, choiceOf, plan}
 use Rattle.model.specs.Sheet.{opening, closing, sheet}
 use Rattle.model.specs.Reports.{reported, allFit, places, healthOf, blankRing}
-use Rattle.model.specs.Refusals.{firstMet, notOfRing, wordOfOtherKind, generatorFitAgain, tooShort, nextSheet, nextHealth, reportConditions, startRefusal, stepRefusal}
+use Rattle.model.specs.Refusals.{firstMet, notOfRing, wordOfOtherKind, generatorFitAgain, tooShort, nextSheet, nextHealth, reportConditions, startRefusal}
+use Rattle.model.specs.Refusals.{stepRefusal}
 use Rattle.model.specs.Answers.{refusedReply, servedReply, startReply, stepReply}
 use Rattle.model.specs.Laws.Tests.{contra, dec, dec-eq, or-cases, or-none, by-cond}
 use Rattle.model.specs.Laws.Parts.{InRing, places-at, same-eq, command-places}
@@ -35,9 +36,13 @@ use Rattle.theory.specs.Completeness.{dark-exactly}
 use Rattle.theory.specs.Feeds.{Single, no-clash, lit-fed, dark-fed, reaches-usable, usable-reaches}
 use Rattle.theory.specs.Interruption.{Fewer, NoneStuckClosed, opening-single, closing-single}
 use Rattle.theory.specs.Locality.{feed-ext}
-use Rattle.theory.specs.Demand3.{Controller, PlantState, freshPlant, effect, afterWord, afterWords, Operation, performAll, Phases, decode, Call, step, Calls, nothing, _then_, replyTo, words, servedOutcome, isServed, World, Performed, performed, Ended, started, served, refused, Moment, in-first, in-second, isStuckClosed, isEmpty, excepted, Interrupted, in-start, between, in-call, shownAt, BusShown, AsChosen, wordRefusal, Meets, no-part, no-word, no-room, Answered, Holds, Demand3}
+use Rattle.theory.specs.Demand3.{Controller, PlantState, freshPlant, effect, afterWord, afterWords, Operation, performAll, Phases, decode, Call, step}
+use Rattle.theory.specs.Demand3.{Calls, nothing, _then_, replyTo, words, servedOutcome, isServed, World, Performed, performed, Ended, started, served}
+use Rattle.theory.specs.Demand3.{refused, Moment, in-first, in-second, isStuckClosed, isEmpty, excepted, Interrupted, in-start, between, in-call, shownAt}
+use Rattle.theory.specs.Demand3.{BusShown, AsChosen, wordRefusal, Meets, no-part, no-word, no-room, Answered, Holds, Demand3}
 use Rattle.theory.specs.Operations.{perform-health}
-use Rattle.theory.specs.Steady.{Ready, phasesOf, Steady, sheet-is, fit-of-kind, as-chosen, served-decodes, transition-steady, steady-good, some-of-prefix, first-fewer, first-done, second-fewer}
+use Rattle.theory.specs.Steady.{Ready, phasesOf, Steady, sheet-is, fit-of-kind, as-chosen, served-decodes, transition-steady, steady-good, some-of-prefix}
+use Rattle.theory.specs.Steady.{first-fewer, first-done, second-fewer}
 
 -- the controller of the definitions
 abbrev pub controller : Controller

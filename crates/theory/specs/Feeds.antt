@@ -11,7 +11,8 @@ use borrow.Author.Tests.{not-true}
 use Rattle.model.specs.declared.Part.{Part}
 use Rattle.model.specs.declared.Feed.the-variants.{Dark, Fed, Clash}
 use Rattle.model.specs.Lists.{below}
-use Rattle.model.specs.Plant.{PartHealth, PartCommands, generator, generatorBreaker, busBreaker, fit, stuckOpen, stuckClosed, closed, up, Leads, connected, busBreakerClosed, running, feeds, feeders, feedBy, busFeed}
+use Rattle.model.specs.Plant.{PartHealth, PartCommands, generator, generatorBreaker, busBreaker, fit, stuckOpen, stuckClosed, closed, up, Leads, connected}
+use Rattle.model.specs.Plant.{busBreakerClosed, running, feeds, feeders, feedBy, busFeed}
 use Rattle.model.specs.Priority.{Path, pathParts}
 use Rattle.model.specs.Choosing.{onPaths, countedClosed, choose, addPath, chosen, plan, commands}
 use Rattle.model.specs.Laws.Tests.{contra, not-of, and-left, and-right, and-intro, or-cases, or-left, or-right, dec, dec-eq}

@@ -16,7 +16,8 @@ use Rattle.model.specs.declared.Report.{Report}
 use Rattle.model.specs.declared.Ring.{Ring}
 use Rattle.model.specs.Lists.{anyOf}
 use Rattle.model.specs.Values.{number, samePart, wordNumber, outcomeOf}
-use Rattle.model.specs.Plant.{PartHealth, PartCommands, smallest, largest, parts, fit, stuckOff, stuckOpen, stuckClosed, healthOfKind, generator, generatorBreaker, busBreaker}
+use Rattle.model.specs.Plant.{PartHealth, PartCommands, smallest, largest, parts, fit, stuckOff, stuckOpen, stuckClosed, healthOfKind, generator}
+use Rattle.model.specs.Plant.{generatorBreaker, busBreaker}
 use Rattle.model.specs.Choosing.{commands, choices}
 use Rattle.model.specs.Sheet.{sheet}
 use Rattle.model.specs.Reports.{reported, allFit, places, healthOf, commandsOf, healthPlaces, commandPlaces, blankRing, withPlan}
@@ -29,7 +30,8 @@ use Rattle.model.specs.Laws.Sheet.{sheet-fits}
 use Rattle.theory.specs.Locality.{Agree, commands-ext}
 use Rattle.theory.specs.Demand3.{afterWord, performed, World, isServed, wordRefusal, no-part, no-word, no-room}
 use Rattle.theory.specs.Steady.{not-commanded, Steady, served-decodes, steady-good}
-use Rattle.theory.specs.Demand3Holds.{step-outcome, step-served, step-refused, start-served, zero-served, step-ready, start-ready, Judged, met, fine, judged, refusal, start-steady, step-steady}
+use Rattle.theory.specs.Demand3Holds.{step-outcome, step-served, step-refused, start-served, zero-served, step-ready, start-ready, Judged, met, fine}
+use Rattle.theory.specs.Demand3Holds.{judged, refusal, start-steady, step-steady}
 
 -- what start and steps make, refused steps too
 pub data Made : Ring → Type 0 where

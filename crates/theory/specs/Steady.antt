@@ -26,7 +26,8 @@ use Rattle.model.specs.Laws.Parts.{InRing, parts-at, health-places, command-pla
 use Rattle.theory.specs.Locality.{Agree, choices-ext, commands-ext, commanded-in-ring, sheet-ext}
 use Rattle.theory.specs.Interruption.{Fewer}
 use Rattle.theory.specs.Demand3.{PlantState, Operation, operation, performAll, Phases, decode, Performed, performed, World, AsChosen}
-use Rattle.theory.specs.Operations.{perform-health, Struck, hit, miss, struck, perm-in, operation-at, opening-at, opening-in, closing-at, closing-in, decode-sheet}
+use Rattle.theory.specs.Operations.{perform-health, Struck, hit, miss, struck, perm-in, operation-at, opening-at, opening-in, closing-at, closing-in}
+use Rattle.theory.specs.Operations.{decode-sheet}
 
 -- ---- operations of the two phases, in any order
 

@@ -20,19 +20,24 @@ use Rattle.model.specs.declared.Feed.{Feed}
 use Rattle.model.specs.declared.Feed.the-variants as feed
 use Rattle.model.specs.Lists.{below, keep, first, anyOf, allOf}
 use Rattle.model.specs.Values.{samePart, partCode, outcomeOf, choiceSource, choiceLetter}
-use Rattle.model.specs.Plant.{PartHealth, PartCommands, smallest, largest, busBreaker, parts, stuckClosed, healthOfKind, next, up, arc, connected, feeds, feeders, feedBy, busFeed}
+use Rattle.model.specs.Plant.{PartHealth, PartCommands, smallest, largest, busBreaker, parts, stuckClosed, healthOfKind, next, up, arc, connected, feeds}
+use Rattle.model.specs.Plant.{feeders, feedBy, busFeed}
 use Rattle.model.specs.Priority.{Path, others, sources, pathBusBreakers, pathBreakers, pathParts, highRises, highPath, lowPath, pathsFrom, paths}
 use Rattle.model.specs.Choosing.{onPaths, usable, countedClosed, isolated, permitted, choose, addPath, chosen, plan, commands, choiceOf, choices}
 use Rattle.model.specs.Sheet.{opening, closing, sheetOf, sheet, written}
 use Rattle.model.specs.Reports.{partNamed, reported, allFit, places, healthOf, commandsOf, healthPlaces, commandPlaces, blankRing, withPlan}
-use Rattle.model.specs.Refusals.{firstMet, nextHealth, nextSheet, sizeOutside, healthOutside, activeAbove, unplanned, badRecord, notOfRing, wordOfOtherKind, generatorFitAgain, tooShort, reportConditions, startRefusal, stepRefusal}
+use Rattle.model.specs.Refusals.{firstMet, nextHealth, nextSheet, sizeOutside, healthOutside, activeAbove, unplanned, badRecord, notOfRing, wordOfOtherKind}
+use Rattle.model.specs.Refusals.{generatorFitAgain, tooShort, reportConditions, startRefusal, stepRefusal}
 use Rattle.model.specs.Answers.{Reply, refusedReply, servedReply, startReply, stepReply, allDark}
 use Rattle.model.specs.Laws.Tests.{contra, dec, or-cases, and-left, and-right}
 use Rattle.model.specs.Laws.Lists.{_∈_, any-at, below-lt, none-some, first-none, RisingBy, all-at}
 use Rattle.theory.specs.Paths.{Ends, tried-at}
 use Rattle.theory.specs.Choosing.{usable-at}
 use Rattle.theory.specs.Feeds.{Reaches, usable-reaches}
-use Rattle.theory.specs.Demand3.{Controller, PlantState, freshPlant, afterWord, afterWords, Operation, operation, perform, performAll, Phases, commandNamed, withOperation, operations, phasesAt, decode, Call, step, Calls, nothing, _then_, whole, replyTo, words, isServed, World, performed, Ended, started, served, refused, in-first, in-second, isStuckClosed, excepted, Interrupted, in-call, shownAt, BusShown, AsChosen, Holds, Demand3}
+use Rattle.theory.specs.Demand3.{Controller, PlantState, freshPlant, afterWord, afterWords, Operation, operation, perform, performAll, Phases}
+use Rattle.theory.specs.Demand3.{commandNamed, withOperation, operations, phasesAt, decode, Call, step, Calls, nothing, _then_, whole, replyTo, words}
+use Rattle.theory.specs.Demand3.{isServed, World, performed, Ended, started, served, refused, in-first, in-second, isStuckClosed, excepted, Interrupted}
+use Rattle.theory.specs.Demand3.{in-call, shownAt, BusShown, AsChosen, Holds, Demand3}
 use Rattle.theory.specs.Demand3Holds.{controller, choices-at}
 use Rattle.theory.specs.Demand2.{FirstPermitted, found, not-found, earlier, Needed, Serves, Demand2}
 use Rattle.theory.specs.Demand2Holds.{rising-distinct, distinct-shorter, earlier-chosen, opens-exactly, closes-exactly, opens-rise, closes-rise}

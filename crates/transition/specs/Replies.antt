@@ -14,7 +14,8 @@ use Rattle.model.specs.declared.Outcome.the-variants.{Served, Refused}
 use Rattle.model.specs.Values.{outcomeOf, wordNumber}
 use Rattle.model.specs.Plant.{smallest, largest}
 use Rattle.model.specs.Reports.{allFit, healthOf, healthPlaces, blankRing}
-use Rattle.model.specs.Refusals.{firstMet, notOfRing, wordOfOtherKind, generatorFitAgain, tooShort, badRecord, nextSheet, nextHealth, reportConditions, startRefusal, stepRefusal}
+use Rattle.model.specs.Refusals.{firstMet, notOfRing, wordOfOtherKind, generatorFitAgain, tooShort, badRecord, nextSheet, nextHealth, reportConditions}
+use Rattle.model.specs.Refusals.{startRefusal, stepRefusal}
 use Rattle.model.specs.Answers.{Reply, refusedReply, servedReply, startReply, stepReply}
 use Rattle.model.specs.Laws.Refusals.{inside, good-size, served-refused}
 use Rattle.sheet.specs.Writing.{roomOutcome, firstOutcome, writeOutcome}

@@ -17,7 +17,8 @@ use Rattle.model.specs.Values.{number, index, firstCode, partCode, sameP
 use Rattle.model.specs.Plant.{PartHealth, PartCommands, largest, generator, generatorBreaker, busBreaker, parts}
 use Rattle.model.specs.Reports.{atNumber, places, healthOf, commandsOf, healthPlaces, commandPlaces}
 use Rattle.model.specs.Laws.Tests.{and-intro, dec-eq, contra, below-other, below-last}
-use Rattle.model.specs.Laws.Lists.{_∈_, any-in, any-false, below-in, below-lt, below-length, below-at, map-in, map-at, RisingBy, rising-append, rising-map, rising-mono, rising-below}
+use Rattle.model.specs.Laws.Lists.{_∈_, any-in, any-false, below-in, below-lt, below-length, below-at, map-in, map-at, RisingBy, rising-append}
+use Rattle.model.specs.Laws.Lists.{rising-map, rising-mono, rising-below}
 
 -- ---- one part
 

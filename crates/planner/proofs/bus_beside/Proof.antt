@@ -6,4 +6,5 @@ use Rattle.planner.proofs.bus_beside.Tie as tie
 pub bus-beside-spec : {M : Type 1} → statement M
 bus-beside-spec =
     tie.close
-    (tie.spec (λ c κs. search auto) (λ c κs. search auto) (λ c. rw (c .before .if1 .taken) (c .next .ensures)) (λ c. rw (c .before .if1 .left) (c .previous .ensures)))
+    (tie.spec (λ c κs. search auto) (λ c κs. search auto) (λ c. rw (c .before .if1 .taken) (c .next .ensures))
+    (λ c. rw (c .before .if1 .left) (c .previous .ensures)))

@@ -33,4 +33,5 @@ returns c =
 pub close-spec : {M : Type 1} → statement M
 close-spec =
     tie.close
-    (tie.spec Inv-loop μ-loop (λ c. (search auto, rw sub-zero, search auto)) (λ c. search auto) (λ c κs. search auto) (λ c. search auto) (λ c. search auto) loop-again returns)
+    (tie.spec Inv-loop μ-loop (λ c. (search auto, rw sub-zero, search auto)) (λ c. search auto) (λ c κs. search auto) (λ c. search auto) (λ c. search auto)
+    loop-again returns)

@@ -33,4 +33,5 @@ returns c =
 pub plan-spec : {M : Type 1} → statement M
 plan-spec =
     tie.close
-    (tie.spec Inv-loop μ-loop (λ c κs. search auto) (λ c. (search auto, served-none _ _, choices-none _ _)) (λ c κs. search auto) (λ c. search auto) (λ c. search auto) (λ c. search auto) (λ c. search auto) loop-again returns)
+    (tie.spec Inv-loop μ-loop (λ c κs. search auto) (λ c. (search auto, served-none _ _, choices-none _ _)) (λ c κs. search auto) (λ c. search auto)
+    (λ c. search auto) (λ c. search auto) (λ c. search auto) loop-again returns)

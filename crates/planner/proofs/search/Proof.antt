@@ -11,7 +11,8 @@ use Rattle.model.specs.Lists.{first}
 use Rattle.model.specs.Priority.{Path, paths}
 use Rattle.theory.specs.Paths.{pathTo}
 use Rattle.planner.specs.declared.Found.the-variants.{Nothing}
-use Rattle.planner.specs.Search.{passesBy, pathCount, pathRises, pathsAfter, pathsLeft, left-start, left-source, left-skip, left-miss, left-hit, left-next, left-none, no-candidate, candidate-walk}
+use Rattle.planner.specs.Search.{passesBy, pathCount, pathRises, pathsAfter, pathsLeft, left-start, left-source, left-skip, left-miss, left-hit}
+use Rattle.planner.specs.Search.{left-next, left-none, no-candidate, candidate-walk}
 
 abbrev Inv-loop : tie.InvT-loop
 Inv-loop n usable breakers owners b found₀ r g high count p₀ found p =
@@ -100,5 +101,6 @@ returns-2 c =
 pub search-spec : {M : Type 1} → statement M
 search-spec =
     tie.close
-    (tie.spec Inv-loop μ-loop Inv-sources μ-sources (λ c. (search auto, refl, left-start _ _ _)) (λ c κs. search auto) (λ c κs. search auto) (λ c κs. search auto) (λ c κs. search auto)
+    (tie.spec Inv-loop μ-loop Inv-sources μ-sources (λ c. (search auto, refl, left-start _ _ _)) (λ c κs. search auto) (λ c κs. search auto)
+    (λ c κs. search auto) (λ c κs. search auto)
     loop-holds (λ c κs. search auto) (λ c κs. search auto) (λ c. search auto) (λ c. search auto) loop-again (λ c. search auto) (λ c. search auto) sources-again returns returns-2)

@@ -19,4 +19,5 @@ returns c =
 pub take-spec : {M : Type 1} → statement M
 take-spec =
     tie.close
-    (tie.spec (λ c. search auto) (λ c. search auto) (λ c κs. search auto) close-requires (λ c κs. search auto) (λ c κs. search auto) (λ c κs. search auto) (λ c κs. search auto) returns)
+    (tie.spec (λ c. search auto) (λ c. search auto) (λ c κs. search auto) close-requires (λ c κs. search auto) (λ c κs. search auto) (λ c κs. search auto)
+    (λ c κs. search auto) returns)

@@ -57,4 +57,5 @@ returns c =
 pub lay-out-spec : {M : Type 1} → statement M
 lay-out-spec =
     tie.close
-    (tie.spec (λ c. search needs) (λ c. search needs) (λ c. search needs) (λ c. simp length-set (omega arith)) (λ c κs. simp length-set (omega arith)) copy-requires-2 fill-requires fill-requires-2 same-length returns)
+    (tie.spec (λ c. search needs) (λ c. search needs) (λ c. search needs) (λ c. simp length-set (omega arith)) (λ c κs. simp length-set (omega arith))
+    copy-requires-2 fill-requires fill-requires-2 same-length returns)

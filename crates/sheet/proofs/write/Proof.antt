@@ -62,4 +62,5 @@ returns-2 c = let f = c .before .before .before in (sym (c .before .number .give
 pub write-spec : {M : Type 1} → statement M
 write-spec =
     tie.close
-    (tie.spec (λ c κs. search needs) (λ c κs. (omega (arith, counted c), omega (arith, counted c))) (λ c κs. search needs) (λ c. search needs) lay-out-requires (λ c. search needs) (λ c. search needs) returns returns-2)
+    (tie.spec (λ c κs. search needs) (λ c κs. (omega (arith, counted c), omega (arith, counted c))) (λ c κs. search needs) (λ c. search needs) lay-out-requires
+    (λ c. search needs) (λ c. search needs) returns returns-2)

@@ -6,4 +6,7 @@ use Rattle.vectors.proofs.fronts_agree.Statement.{statement}
 use Rattle.vectors.proofs.fronts_agree.Tie as tie
 
 pub fronts-agree-spec : {M : Type 1} → statement M
-fronts-agree-spec = tie.close (tie.spec (λ c. search needs) (λ c. search needs) (λ c. sym (length-take-le _ _ (search needs))) (λ c. sym (length-take-le _ _ (search needs))) (λ c κs. search needs) (λ c. search needs))
+fronts-agree-spec =
+    tie.close
+    (tie.spec (λ c. search needs) (λ c. search needs) (λ c. sym (length-take-le _ _ (search needs))) (λ c. sym (length-take-le _ _ (search needs)))
+    (λ c κs. search needs) (λ c. search needs))

@@ -6,4 +6,7 @@ use Rattle.vectors.proofs.read_front.Statement.{statement}
 use Rattle.vectors.proofs.read_front.Tie as tie
 
 pub read-front-spec : {M : Type 1} → statement M
-read-front-spec = tie.close (tie.spec (λ c. search needs) (λ c. sym (length-take-le _ _ (search needs))) (λ c κs. search needs) (λ c. search needs) (λ c. search needs) (λ c. search needs))
+read-front-spec =
+    tie.close
+    (tie.spec (λ c. search needs) (λ c. sym (length-take-le _ _ (search needs))) (λ c κs. search needs) (λ c. search needs) (λ c. search needs)
+    (λ c. search needs))

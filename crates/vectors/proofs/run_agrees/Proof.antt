@@ -25,4 +25,8 @@ served-agrees-requires : tie.Need-served-agrees-requires
 served-agrees-requires c κs = let f = file-served _ _ _ (sym (c .before .before .before .before .before .check-file .ensures .0) ∙ c .before .before .before .n .given .1) in search (needs, f .0, f .1, f .2, f .3)
 
 pub run-agrees-spec : {M : Type 1} → statement M
-run-agrees-spec = tie.close (tie.spec (λ c κs. search needs) (λ c. search needs) (λ c κs. search needs) (λ c. search needs) add-served-agrees (λ c. search needs) (λ c. search needs) part-served-agrees-end add-served-agrees-2 sub-served-agrees-2 part-served-agrees-start-2 (λ c. search needs) served-agrees-requires (λ c. search needs) (λ c. search needs))
+run-agrees-spec =
+    tie.close
+    (tie.spec (λ c κs. search needs) (λ c. search needs) (λ c κs. search needs) (λ c. search needs) add-served-agrees (λ c. search needs) (λ c. search needs)
+    part-served-agrees-end add-served-agrees-2 sub-served-agrees-2 part-served-agrees-start-2 (λ c. search needs) served-agrees-requires (λ c. search needs)
+    (λ c. search needs))

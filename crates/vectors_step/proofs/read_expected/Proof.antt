@@ -6,4 +6,7 @@ use Rattle.vectors_step.proofs.read_expected.Statement.{statement}
 use Rattle.vectors_step.proofs.read_expected.Tie as tie
 
 pub read-expected-spec : {M : Type 1} → statement M
-read-expected-spec = tie.close (tie.spec (λ c. search needs) (λ c. sym (length-take-le _ _ (search needs))) (λ c κs. search needs) (λ c. search needs) (λ c. search needs) (λ c. search needs))
+read-expected-spec =
+    tie.close
+    (tie.spec (λ c. search needs) (λ c. sym (length-take-le _ _ (search needs))) (λ c κs. search needs) (λ c. search needs) (λ c. search needs)
+    (λ c. search needs))
