@@ -1,8 +1,11 @@
 -- The lines of the printed run one at a time, each with the ring state after it. Reports are counted from 0, and report i has line i + 1.
-use mathlib.Core.List.{List, [], _++_}
-use mathlib.Core.Path.{_≡_}
-use Prim.Native.Nat.{ℕ, zero, suc, _≤_}
-use lib.ListN.{length}
+use mathlib.Core.List.{List, [], _++_, append-assoc, append-nil}
+use mathlib.Core.Path.{_≡_, refl, ap}
+use Prim.Native.Nat.{ℕ, zero, suc, _+_, _-_, _≤_}
+use native.Mathlib.Omega.{arith}
+use lib.ListN.{length, drop, length-append, length-drop}
+use lib.Seq.{take-length, drop-length, take-append-seam, drop-append-seam, drop-drop}
+use borrow.Rule.Slice.PartMut.{midOf, putMid}
 use Rattle.model.specs.declared.Ring.{Ring}
 use Rattle.model.specs.declared.ReportAnswer.{ReportAnswer}
 use Rattle.model.specs.declared.ReportAnswer.the-variants.{Read, Refused, Missing}
@@ -11,7 +14,6 @@ use Rattle.model.specs.Refusals.{nextHealth}
 use Rattle.model.specs.Answers.{reportAt}
 use Rattle.model.specs.Sheet.{written}
 use Rattle.model.specs.Text.{transitionLine}
-use Rattle.text.specs.SheetLine.{room}
 
 -- the start: its line, and the ring state after it
 abbrev pub startLine : ℕ → List ℕ
@@ -43,8 +45,59 @@ unfoldable pub linesFrom : Ring → List ℕ → List ℕ → ℕ → ℕ → Li
 linesFrom ring cs ws i zero = []
 linesFrom ring cs ws i (suc k) = reportLine ring cs ws i ++ linesFrom (nextRing ring cs ws i) cs ws (suc i) k
 
+-- the ring state after them
+unfoldable pub ringFrom : Ring → List ℕ → List ℕ → ℕ → ℕ → Ring
+ringFrom ring cs ws i zero = ring
+ringFrom ring cs ws i (suc k) = ringFrom (nextRing ring cs ws i) cs ws (suc i) k
+
 -- a text stands in a buffer that was lent: the buffer before and after, and the text's length
 pub record Stored (text before after : List ℕ) (size : ℕ) : Type 0 where
   pub bytes : after ≡ written text before
   pub sized : size ≡ length text
-  pub fits : size ≤ room
+  pub fits : size ≤ length after
+
+-- ---- laws
+
+-- what was stored fits
+pub stored-whole : {text before after : List ℕ} {size : ℕ} → after ≡ written text before → size ≡ length text → Stored text before after size
+unfolding written
+stored-whole {text} {before} e f = record { bytes = e; sized = f; fits = rw (e, f) (omega (arith, length-append text (drop (length text) before))) }
+
+-- nothing is stored
+pub stored-none : (buffer : List ℕ) → Stored [] buffer buffer 0
+unfolding written
+stored-none buffer = stored-whole refl refl
+
+-- a text behind another, in the part of the buffer that is left
+pub stored-more : {xs ys before between last : List ℕ} {size more : ℕ} → Stored xs before between size → Stored ys (midOf size (length between - size) between) last more
+    → Stored (xs ++ ys) before (putMid size (length between - size) between last) (size + more)
+unfolding written
+stored-more {xs} {ys} {between = between} {size = size} s t =
+    stored-whole
+    (rw (t .bytes, ← length-drop size between, take-length, drop-length, append-nil, s .bytes, s .sized, take-append-seam, drop-append-seam, drop-drop, length-append, append-assoc))
+    (omega (arith, s .sized, t .sized, length-append xs ys))
+
+module _ (cs ws : List ℕ) where
+  -- k + 1 lines are k lines and then the line of report j, the k-th from report i on
+  one-more : (k i j : ℕ) (ring : Ring) → i + k ≡ j
+      → (linesFrom ring cs ws i (suc k) ≡ linesFrom ring cs ws i k ++ reportLine (ringFrom ring cs ws i k) cs ws j) × (ringFrom ring cs ws i (suc k) ≡ nextRing (ringFrom ring cs ws i k) cs ws j)
+  unfolding linesFrom ringFrom
+  one-more zero i j ring e = let z : i ≡ j = omega arith in (rw (z, append-nil), rw z)
+  one-more (suc k) i j ring e =
+      let more = one-more k (suc i) j (nextRing ring cs ws i) (omega arith) in
+      (rw append-assoc (ap (λ l. reportLine ring cs ws i ++ l) (more .0)), more .1)
+
+  -- nothing but the first ring state where no report was passed
+  pub lines-none : (first : Ring) (i : ℕ) (buffer : List ℕ) → (first ≡ ringFrom first cs ws i (i - i)) × Stored (linesFrom first cs ws i (i - i)) buffer buffer 0
+  unfolding linesFrom ringFrom
+  lines-none first i buffer = let z : i - i ≡ 0 = omega arith in rw z (refl, stored-none buffer)
+
+  -- the line of report j behind those before it
+  pub lines-more : (first : Ring) {ring after : Ring} {before between last : List ℕ} {i j size more : ℕ} → i ≤ j
+      → ring ≡ ringFrom first cs ws i (j - i) → Stored (linesFrom first cs ws i (j - i)) before between size
+      → after ≡ nextRing ring cs ws j → Stored (reportLine ring cs ws j) (midOf size (length between - size) between) last more
+      → (after ≡ ringFrom first cs ws i (j + 1 - i)) × Stored (linesFrom first cs ws i (j + 1 - i)) before (putMid size (length between - size) between last) (size + more)
+  lines-more first {i = i} {j} h r s r′ s′ =
+      let z : j + 1 - i ≡ suc (j - i) = omega arith in
+      let more = one-more (j - i) i j first (omega arith) in
+      rw (z, more .0, more .1, ← r) (r′, stored-more s s′)

@@ -1,15 +1,14 @@
-// The printed run, a line a call: each call takes the ring state and gives the next one with its line's bytes in a lent buffer, so that
-// passing the state from line to line is proved, and a program only reads and writes.
+// The printed run, a line a call, or as many lines as a lent buffer has room for: each call takes the ring state and gives the next one
+// with the bytes of its lines, so that passing the state from line to line is proved, and a program only reads and writes.
 ghost use mathlib.Core.Path.{_≡_};
 ghost use mathlib.Core.Bool.{false};
-ghost use Prim.Native.Nat.{suc, _≤_, _<_};
+ghost use Prim.Native.Nat.{_-_, _≤_, _<_};
 ghost use lib.ListN.{length};
-ghost use Rattle.model.specs.Sheet.{written};
 ghost use Rattle.model.specs.Refusals.{firstMet, reportConditions, badRecord, nextHealth};
 ghost use Rattle.model.specs.Reports.{withPlan};
 ghost use Rattle.model.specs.Text.{transitionLine};
 ghost use Rattle.text.specs.SheetLine.{room};
-ghost use Rattle.run.specs.Lines.{startLine, startRing, reportLine, nextRing, Stored};
+ghost use Rattle.run.specs.Lines.{startLine, startRing, reportLine, nextRing, linesFrom, ringFrom, Stored};
 use model::Report;
 use model::ReportAnswer;
 use model::Ring;
@@ -60,4 +59,30 @@ pub fn report_line(ring: Ring, codes: &[u8], words: &[u8], i: usize, out: &mut [
         ReportAnswer::Refused(_) => Line { ring, length: 0 },
         ReportAnswer::Missing => Line { ring, length: 0 },
     }
+}
+
+// Some lines of the run: the ring state after them, the report after the last one, and their length in the lent buffer.
+pub struct Lines {
+    pub ring: Ring,
+    pub next: usize,
+    pub length: usize,
+}
+
+// The lines of the reports from report i on, as many as have room; at least one where a report is left.
+pub fn report_lines(first: Ring, codes: &[u8], words: &[u8], i: usize, out: &mut [u8]) -> Lines
+    requires { ⌜ (badRecord first ≡ false) × (length (now codes) ≤ 4096) × (i ≤ length (now codes)) × (room ≤ length (now out)) ⌝ }
+    ensures ring { λ r. ⌜ (r .ring ≡ ringFrom first (now (codes .entry)) (now (words .entry)) i (r .next - i)) × (badRecord (r .ring) ≡ false) ⌝ }
+    ensures bytes { λ r. ⌜ Stored (linesFrom first (now (codes .entry)) (now (words .entry)) i (r .next - i)) (now (out .entry)) (now (out .exit)) (r .length) ⌝ }
+    ensures next { λ r. ⌜ (i ≤ r .next) × (r .next ≤ length (now (codes .entry))) × (i < length (now (codes .entry)) → i < r .next) ⌝ }
+{
+    let mut ring = first;
+    let mut next = i;
+    let mut length = 0;
+    while next < codes.len() && text::ROOM <= out.len() - length {
+        let line = report_line(ring, codes, words, next, &mut out[length..]);
+        ring = line.ring;
+        next += 1;
+        length += line.length;
+    }
+    Lines { ring, next, length }
 }

@@ -6,4 +6,4 @@ use Rattle.ringctl.proofs.print.Statement.{statement}
 use Rattle.ringctl.proofs.print.Tie as tie
 
 pub print-spec : {M : Type 1} → statement M
-print-spec = tie.close (tie.spec (λ c. sym (length-take-le _ _ (search needs))) (λ c κs. search needs) (λ c. search needs) (λ c. search needs))
+print-spec = tie.close (tie.spec (λ c. sym (length-take-le _ _ (search needs))) (λ c κs. search needs) (λ c. search needs))
