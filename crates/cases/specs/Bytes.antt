@@ -1,19 +1,12 @@
 -- Comparing bytes.
-use mathlib.Core.Path.{_≡_, refl, sym, _∙_, ap}
-use mathlib.Core.Bool.{Bool, true, false, _&&_, cond, and-true, and-assoc}
+use mathlib.Core.Path.{_≡_, sym, _∙_, ap}
+use mathlib.Core.Bool.{Bool, _&&_, and-true, and-assoc}
 use mathlib.Core.List.{List, [], _∷_, _++_}
-use mathlib.Core.Logic.{_⊎_, inl, inr, _≢_}
-use Prim.Native.Nat.{ℕ, _+_, _≤_, _<_}
+use Prim.Native.Nat.{ℕ, _+_}
 use native.Mathlib.Numerals.{add-one}
-use native.Mathlib.Omega.{arith}
-use lib.Dec.{eqb, ltb}
-use lib.ListN.{length, getD, set, replicate, length-replicate, getD-replicate}
-use borrow.Author.Tests.{lt-ltb, le-ltb}
+use lib.Dec.{eqb}
+use lib.ListN.{length, getD}
 use Rattle.model.specs.Lists.{below, allOf}
-use Rattle.model.specs.Plant.{largest}
-use Rattle.model.specs.Reports.{places}
-use Rattle.model.specs.Laws.Tests.{dec-lt}
-use Rattle.model.specs.Laws.Parts.{is-places, places-ext, places-set}
 
 -- the bytes at an index are the same
 abbrev pub sameAt : List ℕ → List ℕ → ℕ → Bool

@@ -1,7 +1,7 @@
 -- What is kept from bus to bus while they are served, and the laws that serving a bus keeps it.
 use mathlib.Core.Path.{_≡_, refl, sym, _∙_, ap}
 use mathlib.Core.Bool.{Bool, true, false, _||_, cond}
-use mathlib.Core.Logic.{_⊎_, inl, inr, _≢_}
+use mathlib.Core.Logic.{_⊎_, inl, inr}
 use mathlib.Core.List.{List, [], _∷_}
 use mathlib.Core.Option.{Option, none, some}
 use Prim.Native.Nat.{ℕ, zero, suc, _+_, _≤_, _<_}
@@ -9,7 +9,7 @@ use native.Mathlib.Omega.{arith}
 use native.Mathlib.Numerals.{add-one}
 use lib.Dec.{ltb, eqb}
 use lib.ListN.{getD, set, replicate, length-replicate, getD-replicate}
-use borrow.Author.Tests.{lt-ltb, le-ltb, eqb-true, eq-eqb, ne-eqb}
+use borrow.Author.Tests.{lt-ltb, le-ltb, eqb-true, eq-eqb}
 use Rattle.model.specs.declared.Part.{Part}
 use Rattle.model.specs.declared.Choice.{Choice}
 use Rattle.model.specs.declared.Choice.the-variants.{Dark}
@@ -22,7 +22,7 @@ use Rattle.model.specs.Plant.{PartHealth, largest, generator, generatorBreaker,
 use Rattle.model.specs.Priority.{Path, pathParts, paths}
 use Rattle.model.specs.Choosing.{onPaths, countedClosed, permitted, choose, addPath, chosen, plan, commands, choiceOf, choices}
 use Rattle.model.specs.Reports.{places, healthOf, commandPlaces}
-use Rattle.model.specs.Laws.Tests.{iff, dec, dec-eq, dec-lt, below-other, below-last}
+use Rattle.model.specs.Laws.Tests.{iff, dec, dec-lt, below-other, below-last}
 use Rattle.model.specs.Laws.Lists.{_∈_, any-at, any-in, first-at, first-ext}
 use Rattle.model.specs.Laws.Parts.{same-eq, same-refl, places-at, places-ext, places-set, set-places, is-places}
 use Rattle.theory.specs.Geometry.{arc-at, arc-in}

@@ -1,13 +1,12 @@
 -- The answers of the buses, taken one by one.
 use mathlib.Core.Path.{_≡_}
 use mathlib.Core.Bool.{cond}
-use mathlib.Core.Logic.{_⊎_, inl, inr, _≢_}
 use mathlib.Core.List.{List}
-use Prim.Native.Nat.{ℕ, _+_, _≤_, _<_}
+use Prim.Native.Nat.{ℕ, _+_}
 use native.Mathlib.Omega.{arith}
 use lib.Dec.{ltb}
 use lib.ListN.{set}
-use borrow.Author.Tests.{lt-ltb, le-ltb}
+use borrow.Author.Tests.{le-ltb}
 use Rattle.model.specs.declared.Feed.{Feed}
 use Rattle.model.specs.declared.Feed.the-variants.{Dark}
 use Rattle.model.specs.declared.BusFeed.{BusFeed}

@@ -1,22 +1,20 @@
 -- Header and lines, one after the other, are the model's printed run.
 use mathlib.Core.Path.{_≡_, refl, sym, _∙_, ap}
-use mathlib.Core.Bool.{Bool, true, false, not, _&&_, cond}
-use mathlib.Core.Logic.{_≢_, _⊎_, inl, inr}
+use mathlib.Core.Bool.{Bool, true, false, not, cond}
+use mathlib.Core.Logic.{_⊎_, inl, inr}
 use mathlib.Core.List.{List, [], _∷_, _++_}
 use mathlib.Core.Option.{Option, none, some}
 use Prim.Native.Nat.{ℕ, zero, suc, _+_, _-_, _*_, _≤_, _<_}
 use native.Mathlib.Omega.{arith}
 use lib.Dec.{eqb, ltb}
-use lib.ListN.{length, getD, take, drop, length-take, length-drop}
+use lib.ListN.{length, getD, drop, length-take, length-drop}
 use lib.Seq.{drop-cons, drop-length}
 use borrow.Author.Tests.{eqb-true, ltb-false, not-false}
 use Rattle.model.specs.declared.Part.{Part}
 use Rattle.model.specs.declared.Word.{Word}
 use Rattle.model.specs.declared.Report.{Report}
 use Rattle.model.specs.declared.Ring.{Ring}
-use Rattle.model.specs.declared.ReportAnswer.{ReportAnswer}
-use Rattle.model.specs.declared.ReportAnswer.the-variants.{Read, Refused, Missing}
-use Rattle.model.specs.declared.FileAnswer.{FileAnswer}
+use Rattle.model.specs.declared.ReportAnswer.the-variants.{Read, Refused}
 use Rattle.model.specs.declared.FileAnswer.the-variants as file
 use Rattle.model.specs.Values.{reportValues}
 use Rattle.model.specs.Plant.{smallest, largest}
@@ -27,7 +25,7 @@ use Rattle.model.specs.Text.{header, transitionLine, reportLines, withReport, r
 use Rattle.model.specs.Laws.Tests.{dec}
 use Rattle.reports.specs.Reports.{within-both}
 use Rattle.model.specs.Laws.Refusals.{size-bounds}
-use Rattle.run.specs.Lines.{startLine, startRing, lineOf, ringOf, reportLine, nextRing, linesFrom}
+use Rattle.run.specs.Lines.{startLine, startRing, lineOf, ringOf, linesFrom}
 
 -- ---- the reports of a served file are all read
 

@@ -1,5 +1,5 @@
 -- `cases::same_bytes` meets its contract. The loop's invariant: the answer is that of the bytes below i.
-use mathlib.Core.Path.{_≡_, refl, _∙_}
+use mathlib.Core.Path.{_≡_, refl}
 use Prim.Native.Nat.{_-_, _≤_}
 use native.Mathlib.Nat.{le-antisymm}
 use borrow.Author.Needs.{needs}

@@ -18,4 +18,7 @@ loop-less : tie.Need-loop-less Inv-loop μ-loop
 loop-less c = search (needs, c .before .before .before .before .before .report-lines .ensures .1 .1 .2 (search needs))
 
 pub print-reports-spec : {M : Type 1} → statement M
-print-reports-spec = tie.close (tie.spec Inv-loop μ-loop (λ c. search needs) (λ c κs. search needs) (λ c κs. search needs) loop-less (λ c. search needs) (λ c. search needs) (λ c. search needs))
+print-reports-spec =
+    tie.close
+    (tie.spec Inv-loop μ-loop (λ c. search needs) (λ c κs. search needs) (λ c κs. search needs) loop-less (λ c. search needs) (λ c. search needs)
+    (λ c. search needs))

@@ -8,4 +8,6 @@ print-requires : tie.Need-print-requires
 print-requires c κs = let header = c .before .before .before .header .ensures in stored-whole (header .0) (header .1) .fits
 
 pub print-served-spec : {M : Type 1} → statement M
-print-served-spec = tie.close (tie.spec (λ c κs. search needs) print-requires (λ c κs. search needs) (λ c κs. search needs) (λ c κs. search needs) (λ c. search needs) (λ c. search needs))
+print-served-spec =
+    tie.close
+    (tie.spec (λ c κs. search needs) print-requires (λ c κs. search needs) (λ c κs. search needs) (λ c κs. search needs) (λ c. search needs) (λ c. search needs))

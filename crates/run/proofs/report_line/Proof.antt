@@ -34,4 +34,5 @@ returns-3 c =
 pub report-line-spec : {M : Type 1} → statement M
 report-line-spec =
     tie.close
-    (tie.spec (λ c κs. search needs) (λ c. search needs) (λ c. search needs) step-line-requires (λ c. search needs) (λ c. search needs) (λ c. search needs) returns returns-2 returns-3)
+    (tie.spec (λ c κs. search needs) (λ c. search needs) (λ c. search needs) step-line-requires (λ c. search needs) (λ c. search needs) (λ c. search needs)
+    returns returns-2 returns-3)
