@@ -11,13 +11,11 @@ ghost use Rattle.model.specs.Refusals.{activeAbove, badRecord, startRefusal, st
 ghost use Rattle.model.specs.Answers.{startReply, stepReply};
 ghost use Rattle.control.specs.Records.{anyDiffer};
 use model::Commands;
+use model::FIT;
 use model::Health;
 use model::Report;
 use model::Ring;
 use model::RingAnswer;
-
-// A health is the number of the word that brought it about.
-const FIT: u8 = 0;
 
 // "not fit or not ordered off or open"
 fn is_active(health: u8, command: bool) -> bool

@@ -1,4 +1,4 @@
-// The data of a ring of generators (document 01). Types alone: their meaning is defined in specs/.
+// The data of a ring of generators (document 01). Types and numbers alone: their meaning is defined in specs/.
 // Parts, buses and generators carry the paper's numbers, 1 to n; arrays have a place for each of 20, at number - 1.
 
 // "A report holds a part, which is a generator, a generator breaker or a bus breaker with its number, and a word."
@@ -20,8 +20,17 @@ pub struct Report {
     pub word: Word,
 }
 
-// The health of every part, each the number of the word that brought it about. A byte, so that a damaged record can be
-// held and refused.
+// A health is the number of the word that brought it about: "0 fit again, 1 stuck off (generators), 2 stuck open, 3 stuck closed
+// (breakers)".
+pub const FIT: u8 = 0;
+
+pub const STUCK_OFF: u8 = 1;
+
+pub const STUCK_OPEN: u8 = 2;
+
+pub const STUCK_CLOSED: u8 = 3;
+
+// The health of every part. A byte each, so that a damaged record can be held and refused.
 pub struct Health {
     pub generators: [u8; 20],
     pub generator_breakers: [u8; 20],

@@ -111,15 +111,6 @@ module _ (n : ℕ) (B O : ℕ → ℕ) (g k : ℕ) where
 
 -- ---- out from a bus
 
--- the bus after bus k
-pub next-up : (n k : ℕ) → k + 1 < n → k + 1 ≡ next n k
-unfolding next
-next-up n k l = rw (← add-one k, ne-eqb (k + 1) n (omega arith))
-
-pub next-first : (n k : ℕ) → k < n → n ≤ k + 1 → 0 ≡ next n k
-unfolding next
-next-first n k h l = rw (← add-one k, eq-eqb (k + 1) n (omega arith))
-
 -- the bus before bus k
 unfoldable pub previous : ℕ → ℕ → ℕ
 previous n k = cond (eqb k 0) (n - 1) (k - 1)

@@ -7,7 +7,7 @@ ghost use Prim.Native.Nat.{suc, _+_, _≤_, _<_};
 ghost use lib.Dec.{eqb};
 ghost use lib.ListN.{getD};
 ghost use Rattle.model.specs.Lists.{first};
-ghost use Rattle.model.specs.Plant.{fit, stuckOpen, stuckClosed, next as busAfter, up as stepsUp, arc};
+ghost use Rattle.model.specs.Plant.{fit, stuckOpen, stuckClosed, up as stepsUp, arc};
 ghost use Rattle.model.specs.Priority.{sources, highRises, paths};
 ghost use Rattle.model.specs.Choosing.{choiceOf, commands, choices};
 ghost use Rattle.model.specs.Reports.{places, healthOf, commandPlaces};
@@ -20,14 +20,10 @@ ghost use Rattle.planner.specs.Progress.{served, closedBy, taken, darken
 use model::BusChoice;
 use model::Choice;
 use model::Commands;
+use model::FIT;
 use model::Health;
-
-// The words of a health: "0 fit again, 1 stuck off (generators), 2 stuck open, 3 stuck closed (breakers)".
-const FIT: u8 = 0;
-
-const STUCK_OPEN: u8 = 2;
-
-const STUCK_CLOSED: u8 = 3;
+use model::STUCK_CLOSED;
+use model::STUCK_OPEN;
 
 // What a plan gives: each bus's choice and each part's command.
 pub struct Planned {
@@ -63,15 +59,7 @@ fn number_of(g: usize) -> u8
     g as u8 + 1
 }
 
-// The bus after bus k, and the one before it: "BBn joins Bn and B1".
-fn next(n: usize, k: usize) -> usize
-    requires { ⌜ (k < n) × (n ≤ 20) ⌝ }
-    ensures { λ r. ⌜ r ≡ busAfter n k ⌝ }
-{
-    let j = k + 1;
-    if j < n { j } else { 0 }
-}
-
+// The bus before bus k: "BBn joins Bn and B1".
 fn previous(n: usize, k: usize) -> usize
     requires { ⌜ (k < n) × (n ≤ 20) ⌝ }
     ensures { λ r. ⌜ r ≡ busBefore n k ⌝ }
@@ -185,7 +173,7 @@ fn clear(
         if !free(owners[k], number) {
             return false;
         }
-        k = next(n, k);
+        k = geometry::next(n, k);
         left -= 1;
     }
     free(owners[k], number)
@@ -255,7 +243,7 @@ fn close(n: usize, closed: [bool; 20], from: usize, steps: usize) -> [bool; 20]
     let mut done = 0;
     while done < steps {
         c[k] = true;
-        k = next(n, k);
+        k = geometry::next(n, k);
         done += 1;
     }
     c
@@ -284,7 +272,11 @@ fn bus_beside(n: usize, k: usize, rising: bool) -> usize
     requires { ⌜ (k < n) × (n ≤ 20) ⌝ }
     ensures { λ r. ⌜ r ≡ busBeside n rising k ⌝ }
 {
-    if rising { next(n, k) } else { previous(n, k) }
+    if rising {
+        geometry::next(n, k)
+    } else {
+        previous(n, k)
+    }
 }
 
 // The owners with this number at bus b and at those after it on one side while the breakers between count as closed.

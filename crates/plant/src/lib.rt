@@ -6,7 +6,7 @@ ghost use mathlib.Core.List.{map};
 ghost use Prim.Native.Nat.{_≤_, _<_};
 ghost use Rattle.model.specs.Lists.{allOf};
 ghost use Rattle.model.specs.Values.{outcomeNumber, feedSources};
-ghost use Rattle.model.specs.Plant.{fit, stuckOff, stuckOpen, stuckClosed, closed, next as nextBus, up, arc, connected as connectedBuses, busBreakerClosed, feeds as feedsOf, busFeed, parts};
+ghost use Rattle.model.specs.Plant.{fit, stuckOff, stuckOpen, stuckClosed, closed, up, arc, connected as connectedBuses, busBreakerClosed, feeds as feedsOf, busFeed, parts};
 ghost use Rattle.model.specs.Reports.{places, healthOf, commandsOf};
 ghost use Rattle.model.specs.Refusals.{sizeOutside, healthOutside, feedsRefusal};
 ghost use Rattle.model.specs.Answers.{feedsAnswer};
@@ -15,19 +15,14 @@ ghost use Rattle.plant.specs.Buses.{darkBuses, feedsBelow};
 ghost use Rattle.plant.specs.Answer.{refusedAnswer, sourcesNamed};
 use model::BusFeed;
 use model::Commands;
+use model::FIT;
 use model::Feed;
 use model::FeedsAnswer;
 use model::Health;
 use model::Outcome;
-
-// A health is the number of the word that brought it about.
-const FIT: u8 = 0;
-
-const STUCK_OFF: u8 = 1;
-
-const STUCK_OPEN: u8 = 2;
-
-const STUCK_CLOSED: u8 = 3;
+use model::STUCK_CLOSED;
+use model::STUCK_OFF;
+use model::STUCK_OPEN;
 
 // Whether a generator of this health is fit: fitness is judged here alone.
 fn is_fit(health: u8) -> bool
@@ -51,14 +46,6 @@ fn is_closed(health: u8, command: bool) -> bool
     health == STUCK_CLOSED || (health != STUCK_OPEN && command)
 }
 
-// "BBn joins Bn and B1": the bus after bus i.
-fn next(n: usize, i: usize) -> usize
-    requires { ⌜ (i < n) × (n ≤ 20) ⌝ }
-    ensures { λ r. ⌜ r ≡ nextBus n i ⌝ }
-{
-    if i + 1 == n { 0 } else { i + 1 }
-}
-
 // Whether every bus breaker met from bus a to bus b through rising bus numbers is closed.
 fn arc_closed(n: usize, health: Health, commands: Commands, a: usize, b: usize) -> bool
     requires { ⌜ (a < n) × (b < n) × (n ≤ 20) ⌝ }
@@ -69,7 +56,7 @@ fn arc_closed(n: usize, health: Health, commands: Commands, a: usize, b: usize) 
         if !is_closed(health.bus_breakers[i], commands.bus_breakers[i]) {
             return false;
         }
-        i = next(n, i);
+        i = geometry::next(n, i);
     }
     true
 }
