@@ -14,6 +14,7 @@ use Rattle.model.specs.Refusals.{nextHealth}
 use Rattle.model.specs.Answers.{reportAt}
 use Rattle.model.specs.Sheet.{written}
 use Rattle.model.specs.Text.{transitionLine}
+use Rattle.text.specs.SheetLine.{room}
 
 -- the start: its line, and the ring state after it
 abbrev pub startLine : ℕ → List ℕ
@@ -54,26 +55,27 @@ ringFrom ring cs ws i (suc k) = ringFrom (nextRing ring cs ws i) cs ws (suc i) k
 pub record Stored (text before after : List ℕ) (size : ℕ) : Type 0 where
   pub bytes : after ≡ written text before
   pub sized : size ≡ length text
+  pub fits : size ≤ room
+
+-- the same of a text of many lines
+pub record Filled (text before after : List ℕ) (size : ℕ) : Type 0 where
+  pub bytes : after ≡ written text before
+  pub sized : size ≡ length text
   pub fits : size ≤ length after
 
 -- ---- laws
 
--- what was stored fits
-pub stored-whole : {text before after : List ℕ} {size : ℕ} → after ≡ written text before → size ≡ length text → Stored text before after size
+-- what was written fits
+pub filled : {text before after : List ℕ} {size : ℕ} → after ≡ written text before → size ≡ length text → Filled text before after size
 unfolding written
-stored-whole {text} {before} e f = record { bytes = e; sized = f; fits = rw (e, f) (omega (arith, length-append text (drop (length text) before))) }
-
--- nothing is stored
-pub stored-none : (buffer : List ℕ) → Stored [] buffer buffer 0
-unfolding written
-stored-none buffer = stored-whole refl refl
+filled {text} {before} e f = record { bytes = e; sized = f; fits = rw (e, f) (omega (arith, length-append text (drop (length text) before))) }
 
 -- a text behind another, in the part of the buffer that is left
-pub stored-more : {xs ys before between last : List ℕ} {size more : ℕ} → Stored xs before between size → Stored ys (midOf size (length between - size) between) last more
-    → Stored (xs ++ ys) before (putMid size (length between - size) between last) (size + more)
+filled-more : {xs ys before between last : List ℕ} {size more : ℕ} → Filled xs before between size → Stored ys (midOf size (length between - size) between) last more
+    → Filled (xs ++ ys) before (putMid size (length between - size) between last) (size + more)
 unfolding written
-stored-more {xs} {ys} {between = between} {size = size} s t =
-    stored-whole
+filled-more {xs} {ys} {between = between} {size = size} s t =
+    filled
     (rw (t .bytes, ← length-drop size between, take-length, drop-length, append-nil, s .bytes, s .sized, take-append-seam, drop-append-seam, drop-drop, length-append, append-assoc))
     (omega (arith, s .sized, t .sized, length-append xs ys))
 
@@ -88,16 +90,16 @@ module _ (cs ws : List ℕ) where
       (rw append-assoc (ap (λ l. reportLine ring cs ws i ++ l) (more .0)), more .1)
 
   -- nothing but the first ring state where no report was passed
-  pub lines-none : (first : Ring) (i : ℕ) (buffer : List ℕ) → (first ≡ ringFrom first cs ws i (i - i)) × Stored (linesFrom first cs ws i (i - i)) buffer buffer 0
-  unfolding linesFrom ringFrom
-  lines-none first i buffer = let z : i - i ≡ 0 = omega arith in rw z (refl, stored-none buffer)
+  pub lines-none : (first : Ring) (i : ℕ) (buffer : List ℕ) → (first ≡ ringFrom first cs ws i (i - i)) × Filled (linesFrom first cs ws i (i - i)) buffer buffer 0
+  unfolding linesFrom ringFrom written
+  lines-none first i buffer = let z : i - i ≡ 0 = omega arith in rw z (refl, filled refl refl)
 
   -- the line of report j behind those before it
   pub lines-more : (first : Ring) {ring after : Ring} {before between last : List ℕ} {i j size more : ℕ} → i ≤ j
-      → ring ≡ ringFrom first cs ws i (j - i) → Stored (linesFrom first cs ws i (j - i)) before between size
+      → ring ≡ ringFrom first cs ws i (j - i) → Filled (linesFrom first cs ws i (j - i)) before between size
       → after ≡ nextRing ring cs ws j → Stored (reportLine ring cs ws j) (midOf size (length between - size) between) last more
-      → (after ≡ ringFrom first cs ws i (j + 1 - i)) × Stored (linesFrom first cs ws i (j + 1 - i)) before (putMid size (length between - size) between last) (size + more)
+      → (after ≡ ringFrom first cs ws i (j + 1 - i)) × Filled (linesFrom first cs ws i (j + 1 - i)) before (putMid size (length between - size) between last) (size + more)
   lines-more first {i = i} {j} h r s r′ s′ =
       let z : j + 1 - i ≡ suc (j - i) = omega arith in
       let more = one-more (j - i) i j first (omega arith) in
-      rw (z, more .0, more .1, ← r) (r′, stored-more s s′)
+      rw (z, more .0, more .1, ← r) (r′, filled-more s s′)

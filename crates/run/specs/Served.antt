@@ -2,9 +2,9 @@
 use mathlib.Core.Path.{_≡_, refl}
 use mathlib.Core.Bool.{Bool, true, false, _&&_, cond}
 use mathlib.Core.Logic.{_⊎_, inl, inr}
-use mathlib.Core.List.{List}
+use mathlib.Core.List.{List, []}
 use mathlib.Core.Option.{Option, none, some}
-use Prim.Native.Nat.{ℕ, _+_, _*_, _≤_}
+use Prim.Native.Nat.{ℕ, _+_, _*_, _≤_, _<_}
 use native.Mathlib.Numerals.{add-one}
 use native.Mathlib.Omega.{arith}
 use lib.Dec.{eqb, ltb}
@@ -34,8 +34,8 @@ use Rattle.theory.specs.Operations.{opening-at, closing-at}
 use Rattle.theory.specs.Demand3Holds.{choices-at, choice-source, zero-served}
 use Rattle.theory.specs.Records.{started, step-good, made-exactly}
 use Rattle.text.specs.Buses.{AllNamed, Named}
-use Rattle.text.specs.SheetLine.{SheetBytes, sheetLine, sheet-is, sheet-line}
-use Rattle.run.specs.Lines.{startLine, startRing, lineOf, ringOf, reportLine, nextRing, Stored, stored-whole, stored-none}
+use Rattle.text.specs.SheetLine.{SheetBytes, sheetLine, sheet-is, sheet-line, line-length}
+use Rattle.run.specs.Lines.{startLine, startRing, lineOf, ringOf, reportLine, nextRing, Stored}
 
 -- ---- the answer and the sheet of a transition
 
@@ -83,11 +83,11 @@ module _ (ring : Ring) (H : PartHealth) (small : ring .n ≤ largest) (buffer : 
     unfolding servedReply
     served-sheet = rw stored transition-sheet
 
-    pub served-stored : (i : ℕ) (before out : List ℕ) (size : ℕ) → out ≡ written (sheetLine i (ring .n) (a .choices) after) before → size ≡ length (sheetLine i (ring .n) (a .choices) after) → Stored (transitionLine i ring H) before out size
+    pub served-stored : (i : ℕ) → i < 10000 → 0 < ring .n → (before out : List ℕ) (size : ℕ) → out ≡ written (sheetLine i (ring .n) (a .choices) after) before → size ≡ length (sheetLine i (ring .n) (a .choices) after) → Stored (transitionLine i ring H) before out size
     unfolding servedReply
-    served-stored i before out size e f =
+    served-stored i few big before out size e f =
         let t : sheetLine i (ring .n) (a .choices) after ≡ transitionLine i ring H = rw (answered, stored) (transition-line i) in
-        stored-whole (rw t at e) (rw t at f)
+        record { bytes = rw t at e; sized = rw t at f; fits = rw f (line-length after served-sheet i (ring .n) (a .choices) few big small served-named) }
 
 -- ---- what a step with room passes
 
@@ -136,7 +136,7 @@ module _ (n : ℕ) (big : smallest ≤ n) (small : n ≤ largest) (buffer : List
 
   pub start-stored : (before out : List ℕ) (size : ℕ) → out ≡ written (sheetLine 0 n (a .choices) after) before → size ≡ length (sheetLine 0 n (a .choices) after) → Stored (startLine n) before out size
   unfolding blankRing
-  start-stored = served-stored (blankRing n) allFit small buffer a after (served .0) (served .1) 0
+  start-stored = served-stored (blankRing n) allFit small buffer a after (served .0) (served .1) 0 (omega arith) (omega arith)
 
 -- ---- a step with a buffer of 122 bytes
 
@@ -170,7 +170,7 @@ module _ (ring : Ring) (good : badRecord ring ≡ false) (small : ring .n ≤ la
     pub step-sheet : SheetBytes after
     step-sheet = served-sheet ring (nextHealth ring r) small buffer a after (step-served .0) (step-served .1)
 
-    pub step-stored : (i : ℕ) (before out : List ℕ) (size : ℕ) → out ≡ written (sheetLine i (ring .n) (a .choices) after) before → size ≡ length (sheetLine i (ring .n) (a .choices) after) → Stored (transitionLine i ring (nextHealth ring r)) before out size
+    pub step-stored : (i : ℕ) → i < 10000 → 0 < ring .n → (before out : List ℕ) (size : ℕ) → out ≡ written (sheetLine i (ring .n) (a .choices) after) before → size ≡ length (sheetLine i (ring .n) (a .choices) after) → Stored (transitionLine i ring (nextHealth ring r)) before out size
     step-stored = served-stored ring (nextHealth ring r) small buffer a after (step-served .0) (step-served .1)
 
 -- ---- reports that are read
@@ -199,10 +199,15 @@ pub read-line : (ring : Ring) (cs ws : List ℕ) (i : ℕ) (r : Report) → repo
 unfolding lineOf ringOf
 read-line ring cs ws i r e = (rw (e, add-one), rw e)
 
+-- nothing is stored
+nothing : (buffer : List ℕ) → Stored [] buffer buffer 0
+unfolding written
+nothing buffer = record { bytes = refl; sized = refl; fits = omega arith }
+
 pub refused-line : (ring : Ring) (cs ws : List ℕ) (i k : ℕ) → reportAt (ring .n) cs ws i ≡ Refused k → (ring ≡ nextRing ring cs ws i) × ((buffer : List ℕ) → Stored (reportLine ring cs ws i) buffer buffer 0)
 unfolding lineOf ringOf
-refused-line ring cs ws i k e = (rw e refl, rw e stored-none)
+refused-line ring cs ws i k e = (rw e refl, rw e nothing)
 
 pub missing-line : (ring : Ring) (cs ws : List ℕ) (i : ℕ) → reportAt (ring .n) cs ws i ≡ Missing → (ring ≡ nextRing ring cs ws i) × ((buffer : List ℕ) → Stored (reportLine ring cs ws i) buffer buffer 0)
 unfolding lineOf ringOf
-missing-line ring cs ws i e = (rw e refl, rw e stored-none)
+missing-line ring cs ws i e = (rw e refl, rw e nothing)

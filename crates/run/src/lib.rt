@@ -8,7 +8,7 @@ ghost use Rattle.model.specs.Refusals.{firstMet, reportConditions, badRecord, n
 ghost use Rattle.model.specs.Reports.{withPlan};
 ghost use Rattle.model.specs.Text.{transitionLine};
 ghost use Rattle.text.specs.SheetLine.{room};
-ghost use Rattle.run.specs.Lines.{startLine, startRing, reportLine, nextRing, linesFrom, ringFrom, Stored};
+ghost use Rattle.run.specs.Lines.{startLine, startRing, reportLine, nextRing, linesFrom, ringFrom, Stored, Filled};
 use model::Report;
 use model::ReportAnswer;
 use model::Ring;
@@ -72,7 +72,7 @@ pub struct Lines {
 pub fn report_lines(first: Ring, codes: &[u8], words: &[u8], i: usize, out: &mut [u8]) -> Lines
     requires { ⌜ (badRecord first ≡ false) × (length (now codes) ≤ 4096) × (i ≤ length (now codes)) × (room ≤ length (now out)) ⌝ }
     ensures ring { λ r. ⌜ (r .ring ≡ ringFrom first (now (codes .entry)) (now (words .entry)) i (r .next - i)) × (badRecord (r .ring) ≡ false) ⌝ }
-    ensures bytes { λ r. ⌜ Stored (linesFrom first (now (codes .entry)) (now (words .entry)) i (r .next - i)) (now (out .entry)) (now (out .exit)) (r .length) ⌝ }
+    ensures bytes { λ r. ⌜ Filled (linesFrom first (now (codes .entry)) (now (words .entry)) i (r .next - i)) (now (out .entry)) (now (out .exit)) (r .length) ⌝ }
     ensures next { λ r. ⌜ (i ≤ r .next) × (r .next ≤ length (now (codes .entry))) × (i < length (now (codes .entry)) → i < r .next) ⌝ }
 {
     let mut ring = first;

@@ -5,13 +5,13 @@ use native.Mathlib.Omega.{arith}
 use denote.Ref.{now}
 use lib.ListN.{length}
 use borrow.Author.Needs.{needs}
-use Rattle.run.specs.Lines.{stored-whole}
+use Rattle.run.specs.Lines.{filled}
 use Rattle.run.specs.Whole.{file-served}
 use Rattle.ringctl.proofs.print_run.Statement.{statement}
 use Rattle.ringctl.proofs.print_run.Tie as tie
 
 print-requires : tie.Need-print-requires
-print-requires c κs = let refused = c .before .before .before .refused-text .ensures in stored-whole (refused .0) (refused .1) .fits
+print-requires c κs = let refused = c .before .before .before .refused-text .ensures in filled (refused .0) (refused .1) .fits
 
 -- the size and the count of a served file
 served : (d : tie.After-n)

@@ -7,13 +7,13 @@ use lib.ListN.{length as len}
 use borrow.Author.Needs.{needs}
 use borrow.Author.Tests.{leb-true, leb-false}
 use Rattle.model.specs.Refusals.{badRecord}
-use Rattle.run.specs.Lines.{linesFrom, ringFrom, Stored, lines-none, lines-more}
+use Rattle.run.specs.Lines.{linesFrom, ringFrom, Filled, lines-none, lines-more}
 use Rattle.run.proofs.report_lines.Statement.{statement}
 use Rattle.run.proofs.report_lines.Tie as tie
 
 abbrev Inv-loop : tie.InvT-loop
 Inv-loop codes words i out₀ ring₀ next₀ length₀ out ring next length =
-    (ring ≡ ringFrom ring₀ codes words i (next - i)) × Stored (linesFrom ring₀ codes words i (next - i)) out₀ out length
+    (ring ≡ ringFrom ring₀ codes words i (next - i)) × Filled (linesFrom ring₀ codes words i (next - i)) out₀ out length
     × (badRecord ring ≡ false) × (len out ≡ len out₀) × (i ≤ next) × (next ≤ len codes) × (0 < length → i < next)
 
 abbrev μ-loop : tie.MeasureT-loop

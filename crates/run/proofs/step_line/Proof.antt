@@ -22,7 +22,7 @@ returns c =
     let size = good-size _ (p .0) in
     let l = c .before .before .line in (
       step-ring _ (p .0) (size .1) _ (p .1) _ (search needs) _ _ (d .step .ensures),
-      step-stored _ (p .0) (size .1) _ (p .1) _ (search needs) _ _ (d .step .ensures) _ _ _ _ (l .ensures .0) (l .ensures .1),
+      step-stored _ (p .0) (size .1) _ (p .1) _ (search needs) _ _ (d .step .ensures) _ (p .2) (omega (arith, size .0)) _ _ _ (l .ensures .0) (l .ensures .1),
     )
 
 pub step-line-spec : {M : Type 1} → statement M
