@@ -2,6 +2,7 @@
 use mathlib.Core.List.{List, [], _++_, append-assoc, append-nil}
 use mathlib.Core.Path.{_≡_, refl, ap}
 use Prim.Native.Nat.{ℕ, zero, suc, _+_, _-_, _≤_}
+use native.Mathlib.Nat.{zero-add, suc-add}
 use native.Mathlib.Omega.{arith}
 use lib.ListN.{length, drop, length-append, length-drop}
 use lib.Seq.{take-length, drop-length, take-append-seam, drop-append-seam, drop-drop}
@@ -80,14 +81,15 @@ filled-more {xs} {ys} {between = between} {size = size} s t =
     (omega (arith, s .sized, t .sized, length-append xs ys))
 
 module _ (cs ws : List ℕ) where
-  -- k + 1 lines are k lines and then the line of report j, the k-th from report i on
-  one-more : (k i j : ℕ) (ring : Ring) → i + k ≡ j
-      → (linesFrom ring cs ws i (suc k) ≡ linesFrom ring cs ws i k ++ reportLine (ringFrom ring cs ws i k) cs ws j) × (ringFrom ring cs ws i (suc k) ≡ nextRing (ringFrom ring cs ws i k) cs ws j)
+  -- k + l lines from report i on are k lines, and then l lines from report j on
+  pub lines-split : (k l i j : ℕ) (ring : Ring) → i + k ≡ j
+      → (linesFrom ring cs ws i (k + l) ≡ linesFrom ring cs ws i k ++ linesFrom (ringFrom ring cs ws i k) cs ws j l)
+      × (ringFrom ring cs ws i (k + l) ≡ ringFrom (ringFrom ring cs ws i k) cs ws j l)
   unfolding linesFrom ringFrom
-  one-more zero i j ring e = let z : i ≡ j = omega arith in (rw (z, append-nil), rw z)
-  one-more (suc k) i j ring e =
-      let more = one-more k (suc i) j (nextRing ring cs ws i) (omega arith) in
-      (rw append-assoc (ap (λ l. reportLine ring cs ws i ++ l) (more .0)), more .1)
+  lines-split zero l i j ring e = let z : i ≡ j = omega arith in rw (zero-add, z) (refl, refl)
+  lines-split (suc k) l i j ring e =
+      let more = lines-split k l (suc i) j (nextRing ring cs ws i) (omega arith) in
+      rw (suc-add, append-assoc) (ap (λ l. reportLine ring cs ws i ++ l) (more .0), more .1)
 
   -- nothing but the first ring state where no report was passed
   pub lines-none : (first : Ring) (i : ℕ) (buffer : List ℕ) → (first ≡ ringFrom first cs ws i (i - i)) × Filled (linesFrom first cs ws i (i - i)) buffer buffer 0
@@ -99,7 +101,8 @@ module _ (cs ws : List ℕ) where
       → ring ≡ ringFrom first cs ws i (j - i) → Filled (linesFrom first cs ws i (j - i)) before between size
       → after ≡ nextRing ring cs ws j → Stored (reportLine ring cs ws j) (midOf size (length between - size) between) last more
       → (after ≡ ringFrom first cs ws i (j + 1 - i)) × Filled (linesFrom first cs ws i (j + 1 - i)) before (putMid size (length between - size) between last) (size + more)
+  unfolding linesFrom ringFrom
   lines-more first {i = i} {j} h r s r′ s′ =
-      let z : j + 1 - i ≡ suc (j - i) = omega arith in
-      let more = one-more (j - i) i j first (omega arith) in
-      rw (z, more .0, more .1, ← r) (r′, filled-more s s′)
+      let z : j + 1 - i ≡ (j - i) + 1 = omega arith in
+      let more = lines-split (j - i) 1 i j first (omega arith) in
+      rw (z, more .0, more .1, ← r, append-nil) (r′, filled-more s s′)
