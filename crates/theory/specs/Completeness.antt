@@ -271,9 +271,9 @@ module _ (n : ℕ) (H : PartHealth) (ws : List Path) (safe : Safe n H ws) (k : �
       (t .0, t .1, permitted-at (all-cons (Ends n) (t .0) (safe .ends)) (f .1) .0)
 
 -- a bus is dark exactly when no generator of the ring has a usable path to it
-pub dark-exactly : (n : ℕ) (H : PartHealth) (b : ℕ) → b < n → plan n H b ≡ none ↔ ((g : ℕ) (r : Bool) → g < n → Usable n H (pathTo b g r) → ⊥)
+pub de-energized-exactly : (n : ℕ) (H : PartHealth) (b : ℕ) → b < n → plan n H b ≡ none ↔ ((g : ℕ) (r : Bool) → g < n → Usable n H (pathTo b g r) → ⊥)
 unfolding plan
-dark-exactly n H b hb = (
+de-energized-exactly n H b hb = (
   λ e g r hg u. none-some e (complete n H (chosen n H b) (safe-chosen n H b (omega arith)) b hb g r hg u .1),
   λ f. go f (plan n H b) refl,
 )

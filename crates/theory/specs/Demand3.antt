@@ -206,17 +206,17 @@ shownAt W b = getD (W .shown) b (record { choice = choice.Dark }) .choice
 -- "Whenever a call's orders have ended ..": of one bus
 pub record BusShown (n : ℕ) (W : World) (b : ℕ) : Type 0 where
   -- "a bus stands shown as dark exactly when no fit generator has a run of breakers to it, none stuck open"
-  pub dark-exactly : shownAt W b ≡ choice.Dark ↔ ((g : ℕ) → Reaches n (W .plant .health) b g → ⊥)
+  pub de-energized-exactly : shownAt W b ≡ choice.Dark ↔ ((g : ℕ) → Reaches n (W .plant .health) b g → ⊥)
   -- "a bus shown lit is fed by the generator named and no other"
-  pub lit : shownAt W b ≢ choice.Dark → busFeed n (W .plant .health) (W .plant .last) b ≡ feed.Fed (choiceSource (shownAt W b))
+  pub energized : shownAt W b ≢ choice.Dark → busFeed n (W .plant .health) (W .plant .last) b ≡ feed.Fed (choiceSource (shownAt W b))
   -- "a dark one by none"
-  pub dark : shownAt W b ≡ choice.Dark → busFeed n (W .plant .health) (W .plant .last) b ≡ feed.Dark
+  pub de-energized : shownAt W b ≡ choice.Dark → busFeed n (W .plant .health) (W .plant .last) b ≡ feed.Dark
 
 -- "and the record gives the plant's health and orders"; parts above n are fit and off or open
 pub record RecordGiven (n : ℕ) (W : World) : Type 0 where
   pub size : W .ring .n ≡ n
   pub health : (p : Part) → InRing n p → healthOf (W .ring .health) p ≡ W .plant .health p
-  pub orders : (p : Part) → InRing n p → commandsOf (W .ring .commands) p ≡ W .plant .last p
+  pub standing : (p : Part) → InRing n p → commandsOf (W .ring .commands) p ≡ W .plant .last p
   pub above : (p : Part) → InRing largest p → n < number p → (healthOf (W .ring .health) p ≡ 0) × (commandsOf (W .ring .commands) p ≡ false)
 
 abbrev pub operation : Bool → Part → Operation

@@ -32,8 +32,8 @@ use Rattle.model.specs.Refusals.{stepRefusal}
 use Rattle.model.specs.Answers.{refusedReply, servedReply, startReply, stepReply}
 use Rattle.model.specs.Laws.Tests.{contra, dec, dec-eq, or-cases, or-none, by-cond}
 use Rattle.model.specs.Laws.Parts.{InRing, places-at, same-eq, command-places}
-use Rattle.theory.specs.Completeness.{dark-exactly}
-use Rattle.theory.specs.Feeds.{Single, no-clash, lit-fed, dark-fed, reaches-usable, usable-reaches}
+use Rattle.theory.specs.Completeness.{de-energized-exactly}
+use Rattle.theory.specs.Feeds.{Single, no-clash, energized-fed, de-energized-fed, reaches-usable, usable-reaches}
 use Rattle.theory.specs.Interruption.{Fewer, NoneStuckClosed, opening-single, closing-single}
 use Rattle.theory.specs.Locality.{feed-ext}
 use Rattle.theory.specs.Demand3.{Controller, PlantState, freshPlant, effect, afterWord, afterWords, Operation, performAll, Phases, decode, Call, step}
@@ -113,7 +113,7 @@ same-effect StuckClosed = refl
 -- the ring and the plant, ready for the phases of a step
 pub step-ready : {n : ℕ} {W : World} → Steady n W → (r : Report) → Ready n (W .ring) (nextHealth (W .ring) r) (afterWord r (W .plant))
 unfolding reported afterWord
-step-ready s r = record { size = s .size; health = λ p i. rw (same-effect (r .word), s .health p i); orders = s .orders }
+step-ready s r = record { size = s .size; health = λ p i. rw (same-effect (r .word), s .health p i); standing = s .standing }
 
 in-ring : (n : ℕ) (p : Part) → notOfRing n p ≡ false → InRing n p
 unfolding notOfRing
@@ -257,7 +257,7 @@ module _ {n : ℕ} {W : World} (s : Steady n W) (r : Report) (inside : InRing n 
 
 pub start-ready : (n : ℕ) → n ≤ largest → Ready n (blankRing n) allFit freshPlant
 unfolding blankRing
-start-ready n small = record { size = refl; health = λ p i. refl; orders = λ p i. command-places allOff p (i .0, omega (arith, i .1)) }
+start-ready n small = record { size = refl; health = λ p i. refl; standing = λ p i. command-places allOff p (i .0, omega (arith, i .1)) }
 
 -- what a buffer decodes to is one thing
 same-phases : {o : Option Phases} {x y : Phases} → o ≡ some x → o ≡ some y → x ≡ y
@@ -291,12 +291,12 @@ module _ (n : ℕ) (buffer : List ℕ) (big : smallest ≤ n) (small : n ≤ lar
 choice-dark : (n : ℕ) (o : Option Path) → choiceOf n o ≡ choice.Dark → o ≡ none
 unfolding choiceOf
 choice-dark n none e = refl
-choice-dark n (some w) e = absurd (lit (eqb (w .source) (w .bus)) (Bool·beq (w .rising) (highRises n (w .source) (w .bus))) e)
+choice-dark n (some w) e = absurd (energized (eqb (w .source) (w .bus)) (Bool·beq (w .rising) (highRises n (w .source) (w .bus))) e)
   where
-    lit : (a b : Bool) → cond a (choice.Own (suc (w .source))) (cond b (choice.High (suc (w .source))) (choice.Low (suc (w .source)))) ≡ choice.Dark → ⊥
-    lit true b e = let z : _≡_ {A = ℕ} 0 1 = cc in omega arith
-    lit false true e = let z : _≡_ {A = ℕ} 0 1 = cc in omega arith
-    lit false false e = let z : _≡_ {A = ℕ} 0 1 = cc in omega arith
+    energized : (a b : Bool) → cond a (choice.Own (suc (w .source))) (cond b (choice.High (suc (w .source))) (choice.Low (suc (w .source)))) ≡ choice.Dark → ⊥
+    energized true b e = let z : _≡_ {A = ℕ} 0 1 = cc in omega arith
+    energized false true e = let z : _≡_ {A = ℕ} 0 1 = cc in omega arith
+    energized false false e = let z : _≡_ {A = ℕ} 0 1 = cc in omega arith
 
 pub choice-source : (n : ℕ) (w : Path) → choiceSource (choiceOf n (some w)) ≡ suc (w .source)
 unfolding choiceOf
@@ -324,17 +324,17 @@ module _ {n : ℕ} {W : World} (small : n ≤ largest) (s : Steady n W) (b : ℕ
 
   bus-shown : BusShown n W b
   bus-shown = record {
-    dark-exactly = (
-      λ e g c. let t = reaches-usable hb c in dark-exactly n K b hb .0 (choice-dark n (plan n K b) (sym shown-is ∙ e)) g (t .0) (c .inside) (t .1),
-      λ f. shown-is ∙ none-dark (dark-exactly n K b hb .1 (λ g r hg u. f g (usable-reaches r hg hb u))),
+    de-energized-exactly = (
+      λ e g c. let t = reaches-usable hb c in de-energized-exactly n K b hb .0 (choice-dark n (plan n K b) (sym shown-is ∙ e)) g (t .0) (c .inside) (t .1),
+      λ f. shown-is ∙ none-dark (de-energized-exactly n K b hb .1 (λ g r hg u. f g (usable-reaches r hg hb u))),
     );
-    lit = λ ne. fed-is ∙ lit (plan n K b) refl ne;
-    dark = λ e. fed-is ∙ dark-fed n K b hb (choice-dark n (plan n K b) (sym shown-is ∙ e));
+    energized = λ ne. fed-is ∙ energized (plan n K b) refl ne;
+    de-energized = λ e. fed-is ∙ de-energized-fed n K b hb (choice-dark n (plan n K b) (sym shown-is ∙ e));
   }
     where
-      lit : (o : Option Path) → plan n K b ≡ o → shownAt W b ≢ choice.Dark → busFeed n K (commands n K) b ≡ feed.Fed (choiceSource (shownAt W b))
-      lit none e ne = absurd (ne (shown-is ∙ none-dark e))
-      lit (some w) e ne = rw (shown-is, e, choice-source n w) (lit-fed n K b w hb e)
+      energized : (o : Option Path) → plan n K b ≡ o → shownAt W b ≢ choice.Dark → busFeed n K (commands n K) b ≡ feed.Fed (choiceSource (shownAt W b))
+      energized none e ne = absurd (ne (shown-is ∙ none-dark e))
+      energized (some w) e ne = rw (shown-is, e, choice-source n w) (energized-fed n K b w hb e)
 
 -- ---- interruptions
 
@@ -445,7 +445,7 @@ module _ (n : ℕ) (buffer : List ℕ) (big : smallest ≤ n) (small : n ≤ lar
   holds calls = record {
     ends = ends calls;
     shown = λ i h b hb. bus-shown small (steady h) b hb;
-    given = λ i h. let s = steady h in record { size = s .size; health = s .health; orders = s .orders; above = s .above };
+    given = λ i h. let s = steady h in record { size = s .size; health = s .health; standing = s .standing; above = s .above };
     start-chosen = start-chosen;
     chosen = λ call i h e. pick call h e;
     no-clash = λ {P} m b g h hb. no-clash n (P .health) (P .last) b (clash-free m refl b hb) g h;

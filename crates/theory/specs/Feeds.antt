@@ -228,9 +228,9 @@ module _ (n : ℕ) (H : PartHealth) where
       s .2 ∙ all-safe .isolates (s .0) (t .0) (s .1) (t .1) (rw (s .2, t .2) at (leads-trans (s .3) (leads-sym (t .3)))) ∙ sym (t .2)
 
   -- a bus with a choice
-  pub lit-fed : (b : ℕ) (w : Path) → b < n → plan n H b ≡ some w → busFeed n H (commands n H) b ≡ Fed (suc (w .source))
+  pub energized-fed : (b : ℕ) (w : Path) → b < n → plan n H b ≡ some w → busFeed n H (commands n H) b ≡ Fed (suc (w .source))
   unfolding plan
-  lit-fed b w hb e = feed-by n H (commands n H) b (w .source) (c .0 .source) feeding (λ h hh f. single b hb h (w .source) hh (c .0 .source) f feeding)
+  energized-fed b w hb e = feed-by n H (commands n H) b (w .source) (c .0 .source) feeding (λ h hh f. single b hb h (w .source) hh (c .0 .source) f feeding)
     where
       c : Ends n w × (w .bus ≡ b) × Usable n H w
       c = chosen-usable n H (chosen n H b) (safe-chosen n H b (omega arith)) b hb w e
@@ -261,9 +261,9 @@ module _ (n : ℕ) (H : PartHealth) where
       go (inr f) = (false, whole false f)
 
   -- a dark bus
-  pub dark-fed : (b : ℕ) → b < n → plan n H b ≡ none → busFeed n H (commands n H) b ≡ Dark
+  pub de-energized-fed : (b : ℕ) → b < n → plan n H b ≡ none → busFeed n H (commands n H) b ≡ Dark
   unfolding plan
-  dark-fed b hb e = feed-dark n H (commands n H) b (λ g hg. go g hg (dec (feeds n H (commands n H) b g)))
+  de-energized-fed b hb e = feed-dark n H (commands n H) b (λ g hg. go g hg (dec (feeds n H (commands n H) b g)))
     where
       go : (g : ℕ) → g < n → (feeds n H (commands n H) b g ≡ true) ⊎ (feeds n H (commands n H) b g ≡ false) → feeds n H (commands n H) b g ≡ false
       go g hg (inl f) =

@@ -268,7 +268,7 @@ module _ (ring : Ring) (good : badRecord ring ≡ false) where
   good-steady = record {
     size = refl;
     health = λ p i. refl;
-    orders = λ p i. refl;
+    standing = λ p i. refl;
     above = λ p i l. (above-fit p i l, above-off p i l);
     kinds = of-kind;
     planned = λ p i. as-planned p (i .0, omega (arith, i .1, bounds .1));

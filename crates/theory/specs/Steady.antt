@@ -106,7 +106,7 @@ module _ (n : ℕ) (P : PlantState) (N : PartCommands) where
 pub record Ready (n : ℕ) (ring : Ring) (H : PartHealth) (P : PlantState) : Type 0 where
   pub size : ring .n ≡ n
   pub health : Agree n H (P .health)
-  pub orders : Agree n (commandsOf (ring .commands)) (P .last)
+  pub standing : Agree n (commandsOf (ring .commands)) (P .last)
 
 -- document 01's phases for a plant
 unfoldable pub phasesOf : ℕ → PlantState → Phases
@@ -121,7 +121,7 @@ module _ {n : ℕ} {ring : Ring} {H : PartHealth} {P : PlantState} (small : n �
 
   pub sheet-is : nextSheet ring H ≡ sheet n (P .last) (commands n (P .health))
   unfolding nextSheet
-  sheet-is = rw (ready .size) (sheet-ext n (commandsOf (ring .commands)) (P .last) (commands n H) (commands n (P .health)) (ready .orders) news)
+  sheet-is = rw (ready .size) (sheet-ext n (commandsOf (ring .commands)) (P .last) (commands n H) (commands n (P .health)) (ready .standing) news)
 
   pub served-decodes : (buffer : List ℕ) → decode n (servedReply ring H buffer .buffer) ≡ some (phasesOf n P)
   unfolding servedReply phasesOf sheet
@@ -143,7 +143,7 @@ module _ {n : ℕ} {ring : Ring} {H : PartHealth} {P : PlantState} (small : n �
 pub record Steady (n : ℕ) (W : World) : Type 0 where
   pub size : W .ring .n ≡ n
   pub health : Agree n (healthOf (W .ring .health)) (W .plant .health)
-  pub orders : Agree n (commandsOf (W .ring .commands)) (W .plant .last)
+  pub standing : Agree n (commandsOf (W .ring .commands)) (W .plant .last)
   pub above : (p : Part) → InRing largest p → n < number p → (healthOf (W .ring .health) p ≡ 0) × (commandsOf (W .ring .commands) p ≡ false)
   pub kinds : (p : Part) → InRing n p → healthOfKind p (W .plant .health p) ≡ true
   pub planned : Agree n (W .plant .last) (commands n (W .plant .health))
@@ -166,7 +166,7 @@ unfolding servedReply withPlan phasesOf
 transition-steady {n} {ring} {H} {P} small ready kinds above buffer (performed {xs = xs} {ys = ys} dx dy) = record {
   size = ready .size;
   health = λ p r. health-places H p (wide p r) ∙ ready .health p r ∙ kept p;
-  orders = λ p r. command-places (commands (ring .n) H) p (wide p r) ∙ new p ∙ sym (both-done n P (commands n (P .health)) xs ys dx dy p r);
+  standing = λ p r. command-places (commands (ring .n) H) p (wide p r) ∙ new p ∙ sym (both-done n P (commands n (P .health)) xs ys dx dy p r);
   above = λ p r l. (health-places H p r ∙ above p r l, command-places (commands (ring .n) H) p r ∙ new p ∙ not-commanded n (P .health) p l);
   kinds = λ p r. rw (← ready .health p r ∙ kept p) (kinds p r);
   planned = λ p r. both-done n P (commands n (P .health)) xs ys dx dy p r ∙ ap (λ K. commands n K p) (sym same-health);
@@ -236,7 +236,7 @@ module _ {n : ℕ} {W : World} (s : Steady n W) where
       same a b e = rw e (beq-refl b)
 
       go : (p : Part) → InRing n p ⊎ (InRing largest p × (n < number p)) → C p ≡ commands n H p
-      go p (inl r) = s .orders p r ∙ s .planned p r ∙ sym (commands-ext n H (W .plant .health) (s .health) p)
+      go p (inl r) = s .standing p r ∙ s .planned p r ∙ sym (commands-ext n H (W .plant .health) (s .health) p)
       go p (inr r) = s .above p (r .0) (r .1) .1 ∙ sym (not-commanded n H p (r .1))
 
   pub steady-good : smallest ≤ n → n ≤ largest → badRecord (W .ring) ≡ false

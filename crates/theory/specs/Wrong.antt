@@ -394,8 +394,8 @@ unfolding busFails feedNumber
 bus-sound {n} {b} {W} hb s e = go (or-cases (not (eqb (feedNumber (busFeed n (W .plant .health) (W .plant .last) b)) (choiceSource (shownAt W b)))) _ e)
   where
     fed : (isDark (shownAt W b) ≡ true) ⊎ (isDark (shownAt W b) ≡ false) → feedNumber (busFeed n (W .plant .health) (W .plant .last) b) ≡ choiceSource (shownAt W b)
-    fed (inl d) = let z = is-dark (shownAt W b) d in rw (s .dark z, z)
-    fed (inr d) = rw (s .lit (not-dark (shownAt W b) d))
+    fed (inl d) = let z = is-dark (shownAt W b) d in rw (s .de-energized z, z)
+    fed (inr d) = rw (s .energized (not-dark (shownAt W b) d))
 
     reached : (w : Path) → w ∈ paths n b → usable n (W .plant .health) w ≡ true → (g : ℕ) × Reaches n (W .plant .health) b g
     reached w m u =
@@ -408,7 +408,7 @@ bus-sound {n} {b} {W} hb s e = go (or-cases (not (eqb (feedNumber (busFeed n (W 
     go (inr x) =
         let t = any-at (usable n (W .plant .health)) (paths n b) (and-right (isDark (shownAt W b)) _ x) in
         let r = reached (t .0) (t .1) (t .2) in
-        s .dark-exactly .0 (is-dark (shownAt W b) (and-left (isDark (shownAt W b)) _ x)) (r .0) (r .1)
+        s .de-energized-exactly .0 (is-dark (shownAt W b) (and-left (isDark (shownAt W b)) _ x)) (r .0) (r .1)
 
 on-world : (o : Option World) (f : World → Bool) → onWorld o f ≡ true → (W : World) × (o ≡ some W) × (f W ≡ true)
 unfolding onWorld
