@@ -25,7 +25,7 @@ fn print_reports(first: Ring, codes: &[u8], words: &[u8], out: &mut [u8])
     let mut ring = first;
     let mut i = 0;
     while i < codes.len() {
-        let lines = run::report_lines(ring, codes, words, i, out);
+        let lines = text::report_lines(ring, codes, words, i, out);
         print(out, lines.length);
         ring = lines.ring;
         i = lines.next;
@@ -38,7 +38,7 @@ fn print_served(n: u8, codes: &[u8], words: &[u8], out: &mut [u8])
 {
     let header = text::header(n, codes.len(), out);
     print(out, header);
-    let start = run::start_line(n, out);
+    let start = text::start_line(n, out);
     print(out, start.length);
     let ring = start.ring;
     print_reports(ring, codes, words, out);

@@ -3,3 +3,6 @@ pub mod Spaced
 pub mod Buses
 pub mod Operations
 pub mod SheetLine
+pub mod Lines
+pub mod Served
+pub mod Whole

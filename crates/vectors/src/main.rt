@@ -40,7 +40,7 @@ fn reports_agree(stored: i32, first: Ring, codes: &[u8], words: &[u8]) -> bool
     let mut same = true;
     for i in 0..codes.len() {
         let mut out = [0u8; 640];
-        let line = run::report_line(ring, codes, words, i, &mut out);
+        let line = text::report_line(ring, codes, words, i, &mut out);
         same &= next_is(stored, &out, line.length);
         ring = line.ring;
     }
@@ -54,7 +54,7 @@ fn served_agrees(stored: i32, n: u8, codes: &[u8], words: &[u8]) -> bool
     let mut out = [0u8; 640];
     let header = text::header(n, codes.len(), &mut out);
     let header_agrees = next_is(stored, &out, header);
-    let start = run::start_line(n, &mut out);
+    let start = text::start_line(n, &mut out);
     let start_agrees = next_is(stored, &out, start.length);
     let ring = start.ring;
     header_agrees && start_agrees && reports_agree(stored, ring, codes, words)

@@ -5,8 +5,8 @@ use native.Mathlib.Omega.{arith}
 use denote.Ref.{now}
 use lib.ListN.{length}
 use borrow.Author.Needs.{needs}
-use Rattle.run.specs.Lines.{filled}
-use Rattle.run.specs.Whole.{file-served}
+use Rattle.text.specs.Lines.{filled}
+use Rattle.text.specs.Whole.{file-served}
 use Rattle.ringctl.proofs.print_run.Statement.{statement}
 use Rattle.ringctl.proofs.print_run.Tie as tie
 

@@ -1,6 +1,6 @@
 -- Safe: what was written fits.
 use borrow.Author.Needs.{needs}
-use Rattle.run.specs.Lines.{filled}
+use Rattle.text.specs.Lines.{filled}
 use Rattle.ringctl.proofs.print_served.Statement.{statement}
 use Rattle.ringctl.proofs.print_served.Tie as tie
 

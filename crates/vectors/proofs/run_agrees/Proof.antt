@@ -2,7 +2,7 @@
 use mathlib.Core.Path.{sym, _∙_}
 use native.Mathlib.Omega.{arith}
 use borrow.Author.Needs.{needs}
-use Rattle.run.specs.Whole.{file-served}
+use Rattle.text.specs.Whole.{file-served}
 use Rattle.vectors.proofs.run_agrees.Statement.{statement}
 use Rattle.vectors.proofs.run_agrees.Tie as tie
 

@@ -25,7 +25,7 @@ use Rattle.model.specs.Text.{header, transitionLine, reportLines, withReport, r
 use Rattle.model.specs.Laws.Tests.{dec}
 use Rattle.reports.specs.Reports.{within-both}
 use Rattle.model.specs.Laws.Refusals.{size-bounds}
-use Rattle.run.specs.Lines.{startLine, startRing, lineOf, ringOf, linesFrom}
+use Rattle.text.specs.Lines.{startLine, startRing, lineOf, ringOf, linesFrom}
 
 -- ---- the reports of a served file are all read
 

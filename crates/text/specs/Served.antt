@@ -33,9 +33,9 @@ use Rattle.theory.specs.Choosing.{chosen-ends}
 use Rattle.theory.specs.Operations.{opening-at, closing-at}
 use Rattle.theory.specs.Demand3Holds.{choices-at, choice-source, zero-served}
 use Rattle.theory.specs.Records.{started, step-good, made-exactly}
 use Rattle.text.specs.Buses.{AllNamed, Named}
 use Rattle.text.specs.SheetLine.{SheetBytes, sheetLine, sheet-is, sheet-line, line-length}
-use Rattle.run.specs.Lines.{startLine, startRing, lineOf, ringOf, reportLine, nextRing, Stored}
+use Rattle.text.specs.Lines.{startLine, startRing, lineOf, ringOf, reportLine, nextRing, Stored}
 
 -- ---- the answer and the sheet of a transition
 

@@ -1,4 +1,4 @@
--- `run::report_lines` meets its contract: at each turn the lines of the reports passed stand in the buffer, and a report was passed where something stands there.
+-- `text::report_lines` meets its contract: at each turn the lines of the reports passed stand in the buffer, and a report was passed where something stands there.
 use mathlib.Core.Path.{_≡_, refl}
 use mathlib.Core.Bool.{false}
 use Prim.Native.Nat.{_-_, _≤_, _<_}
@@ -7,9 +7,9 @@ use lib.ListN.{length as len}
 use borrow.Author.Needs.{needs}
 use borrow.Author.Tests.{leb-true, leb-false}
 use Rattle.model.specs.Refusals.{badRecord}
-use Rattle.run.specs.Lines.{linesFrom, ringFrom, Filled, lines-none, lines-more}
-use Rattle.run.proofs.report_lines.Statement.{statement}
-use Rattle.run.proofs.report_lines.Tie as tie
+use Rattle.text.specs.Lines.{linesFrom, ringFrom, Filled, lines-none, lines-more}
+use Rattle.text.proofs.report_lines.Statement.{statement}
+use Rattle.text.proofs.report_lines.Tie as tie
 
 abbrev Inv-loop : tie.InvT-loop
 Inv-loop codes words i out₀ ring₀ next₀ length₀ out ring next length =

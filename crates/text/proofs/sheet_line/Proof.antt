@@ -1,4 +1,4 @@
--- `line`: number, buses and phases follow one another, then a line feed.
+-- `sheet_line`: number, buses and phases follow one another, then a line feed.
 use mathlib.Core.Path.{_≡_, refl, _∙_}
 use Prim.Native.Nat.{_+_, _≤_}
 use native.Mathlib.Omega.{arith}
@@ -10,8 +10,8 @@ use Rattle.text.specs.Numbers.{decimal-length}
 use Rattle.model.specs.Laws.Appended.{Appended, appended-one, appended-more, appended-all}
 use Rattle.text.specs.Buses.{buses-length}
 use Rattle.text.specs.SheetLine.{sheetLine, line-parts, line-length}
-use Rattle.text.proofs.line.Statement.{statement}
-use Rattle.text.proofs.line.Tie as tie
+use Rattle.text.proofs.sheet_line.Statement.{statement}
+use Rattle.text.proofs.sheet_line.Tie as tie
 
 -- what was known at the entry, after the number and after the buses
 abbrev start : tie.After-append-number → tie.Start
@@ -59,8 +59,8 @@ fits f =
 sized : (f : tie.After-append-phases) → length (f .append-phases .last .1 .0) ≡ length (now (start (first (second f)) .args .out))
 sized f = f .append-phases .kept .1 .0 ∙ second f .append-buses .kept .1 .1 .0 ∙ first (second f) .append-number .kept .1 .0
 
-pub line-spec : {M : Type 1} → statement M
-line-spec =
+pub sheet-line-spec : {M : Type 1} → statement M
+sheet-line-spec =
     tie.close
     (tie.spec (λ c κs. search needs) append-buses-requires append-phases-requires
     (λ c. let f = c .before .before in omega (arith, stored f .end, fits f, sized f))

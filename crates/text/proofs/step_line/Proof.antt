@@ -1,12 +1,12 @@
--- `run::step_line` meets its contract.
+-- `text::step_line` meets its contract.
 use native.Mathlib.Omega.{arith}
 use borrow.Author.Needs.{needs}
 use Rattle.model.specs.Laws.Refusals.{good-size}
-use Rattle.run.specs.Served.{step-ring, step-named, step-sheet, step-stored}
-use Rattle.run.proofs.step_line.Statement.{statement}
-use Rattle.run.proofs.step_line.Tie as tie
+use Rattle.text.specs.Served.{step-ring, step-named, step-sheet, step-stored}
+use Rattle.text.proofs.step_line.Statement.{statement}
+use Rattle.text.proofs.step_line.Tie as tie
 
-line-requires : tie.Need-line-requires
+line-requires : tie.Need-sheet-line-requires
 line-requires c κs =
     let d = c .before .before .before .before .before in
     let p = c .before .before .before .before .before .before .before .before .pre in
@@ -20,7 +20,7 @@ returns c =
     let d = c .before .before .before .before .before .before .before .before in
     let p = c .before .before .before .before .before .before .before .before .before .before .before .pre in
     let size = good-size _ (p .0) in
-    let l = c .before .before .line in (
+    let l = c .before .before .sheet-line in (
       step-ring _ (p .0) (size .1) _ (p .1) _ (search needs) _ _ (d .step .ensures),
       step-stored _ (p .0) (size .1) _ (p .1) _ (search needs) _ _ (d .step .ensures) _ (p .2) (omega (arith, size .0)) _ _ _ (l .ensures .0) (l .ensures .1),
     )

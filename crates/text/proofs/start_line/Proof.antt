@@ -1,11 +1,11 @@
--- `run::start_line` meets its contract.
+-- `text::start_line` meets its contract.
 use native.Mathlib.Omega.{arith}
 use borrow.Author.Needs.{needs}
-use Rattle.run.specs.Served.{start-ring, start-named, start-sheet, start-stored}
-use Rattle.run.proofs.start_line.Statement.{statement}
-use Rattle.run.proofs.start_line.Tie as tie
+use Rattle.text.specs.Served.{start-ring, start-named, start-sheet, start-stored}
+use Rattle.text.proofs.start_line.Statement.{statement}
+use Rattle.text.proofs.start_line.Tie as tie
 
-line-requires : tie.Need-line-requires
+line-requires : tie.Need-sheet-line-requires
 line-requires c κs =
     let d = c .before .before .before .before .before in
     let named = start-named _ (search needs) (search needs) _ (search needs) _ _ (d .start .ensures) in
@@ -15,7 +15,7 @@ line-requires c κs =
 returns : tie.Need-returns
 returns c =
     let d = c .before .before .before .before .before .before .before .before in
-    let l = c .before .before .line in
+    let l = c .before .before .sheet-line in
     (start-ring _ (search needs) (search needs) _ (search needs) _ _ (d .start .ensures), start-stored _ (search needs) (search needs) _ (search needs) _ _ (d .start .ensures) _ _ _ (l .ensures .0) (l .ensures .1))
 
 pub start-line-spec : {M : Type 1} → statement M

@@ -1,10 +1,10 @@
--- `run::report_line` meets its contract: a report that is read has a step's line, another none.
+-- `text::report_line` meets its contract: a report that is read has a step's line, another none.
 use mathlib.Core.Path.{sym, _∙_}
 use native.Mathlib.Omega.{arith}
 use borrow.Author.Needs.{needs}
-use Rattle.run.specs.Served.{read-checked, read-line, refused-line, missing-line}
-use Rattle.run.proofs.report_line.Statement.{statement}
-use Rattle.run.proofs.report_line.Tie as tie
+use Rattle.text.specs.Served.{read-checked, read-line, refused-line, missing-line}
+use Rattle.text.proofs.report_line.Statement.{statement}
+use Rattle.text.proofs.report_line.Tie as tie
 
 step-line-requires : tie.Need-step-line-requires
 step-line-requires c κs =
