@@ -37,6 +37,7 @@ module _ (n : ℕ) (H : PartHealth) (C : PartCommands) where
 abbrev pub differs : PartCommands → PartCommands → Part → Bool
 differs C D p = not (Bool·beq (C p) (D p))
 
+-- .. and some part has
 unfoldable pub anyDiffer : PartCommands → PartCommands → Bool
 anyDiffer C D = anyOf (differs C D) (parts largest)
 

@@ -37,6 +37,7 @@ permitted n H ws w = usable n H w && isolated n H (w ∷ ws)
 unfoldable pub choose : ℕ → PartHealth → List Path → ℕ → Option Path
 choose n H ws b = first (permitted n H ws) (paths n b)
 
+-- "the ways already chosen": one more, or none where the bus is dark
 unfoldable pub addPath : Option Path → List Path → List Path
 addPath none ws = ws
 addPath (some w) ws = w ∷ ws

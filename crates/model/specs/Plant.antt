@@ -12,20 +12,23 @@ use Rattle.model.specs.declared.Feed.the-variants.{Dark, Fed, Clash}
 use Rattle.model.specs.Lists.{below, keep, allOf}
 use Rattle.model.specs.Values.{wordNumber}
 
--- "A ring has n buses B1 to Bn, n from 3 to 20."
+-- "n from 3 to 20": the smallest ring
 abbrev pub smallest : ℕ
 smallest = 3
 
+-- "n from 3 to 20": the largest
 abbrev pub largest : ℕ
 largest = 20
 
--- the parts at an index: "Generator Gk reaches Bk through generator breaker GBk. Bus breaker BBk joins Bk and B(k+1)"
+-- "Generator Gk reaches Bk ..": the generator at an index
 abbrev pub generator : ℕ → Part
 generator g = Generator (suc g)
 
+-- ".. through generator breaker GBk."
 abbrev pub generatorBreaker : ℕ → Part
 generatorBreaker g = GeneratorBreaker (suc g)
 
+-- "Bus breaker BBk joins Bk and B(k+1)"
 abbrev pub busBreaker : ℕ → Part
 busBreaker i = BusBreaker (suc i)
 
@@ -41,19 +44,23 @@ PartHealth = Part → ℕ
 abbrev pub PartCommands : Type 0
 PartCommands = Part → Bool
 
--- "A generator is fit or stuck off. A breaker is fit, stuck open or stuck closed."
+-- "fit"
 abbrev pub fit : ℕ → Bool
 fit h = eqb h (wordNumber Fit)
 
+-- "stuck off"
 abbrev pub stuckOff : ℕ → Bool
 stuckOff h = eqb h (wordNumber StuckOff)
 
+-- "stuck open"
 abbrev pub stuckOpen : ℕ → Bool
 stuckOpen h = eqb h (wordNumber StuckOpen)
 
+-- "stuck closed"
 abbrev pub stuckClosed : ℕ → Bool
 stuckClosed h = eqb h (wordNumber StuckClosed)
 
+-- "A generator is fit or stuck off. A breaker is fit, stuck open or stuck closed."
 unfoldable pub healthOfKind : Part → ℕ → Bool
 healthOfKind (Generator k) h = fit h || stuckOff h
 healthOfKind (GeneratorBreaker k) h = fit h || stuckOpen h || stuckClosed h
@@ -72,7 +79,7 @@ unfoldable pub next : ℕ → ℕ → ℕ
 next n i = cond (eqb (suc i) n) 0 (suc i)
 
 -- "Two buses are joined when closed bus breakers lead from one to the other; a bus is joined to itself."
--- (NAMES: connected.) C says which bus breakers are closed.
+-- Connected, here. C says which bus breakers are closed.
 pub data Leads (n : ℕ) (C : ℕ → Bool) : ℕ → ℕ → Type 0 where
   stay : {a : ℕ} → Leads n C a a
   rise : {a b c : ℕ} → a < n → C a ≡ true → b ≡ next n a → Leads n C b c → Leads n C a c

@@ -41,9 +41,11 @@ pathParts n p = generator (p .source) ∷ pathBreakers n p
 unfoldable pub highRises : ℕ → ℕ → ℕ → Bool
 highRises n g b = leb (up n g b) (up n b g)
 
+-- "The shorter is high"
 abbrev pub highPath : ℕ → ℕ → ℕ → Path
 highPath n b g = record { source = g; bus = b; rising = highRises n g b }
 
+-- "the other low"
 abbrev pub lowPath : ℕ → ℕ → ℕ → Path
 lowPath n b g = record { source = g; bus = b; rising = not (highRises n g b) }
 

@@ -26,10 +26,11 @@ fileSize f = getD f 0 0
 abbrev pub fileCount : List ℕ → ℕ
 fileCount f = getD f 1 0 + 256 * getD f 2 0
 
--- "Two arrays follow: m part codes from byte 3, then m words."
+-- "Two arrays follow: m part codes from byte 3 .."
 abbrev pub fileCodes : List ℕ → List ℕ
 fileCodes f = take (fileCount f) (drop 3 f)
 
+-- ".. then m words."
 abbrev pub fileWords : List ℕ → List ℕ
 fileWords f = drop (3 + fileCount f) f
 
@@ -49,8 +50,6 @@ reported H r p = cond (samePart p (r .part)) (wordNumber (r .word)) (H p)
 abbrev pub allFit : PartHealth
 allFit p = wordNumber Fit
 
--- "The ring record holds n, each part's health and its standing order."
-
 -- what an array of 20 places holds at a number, from 1
 abbrev pub atNumber : {A : Type 0} → A → List A → ℕ → A
 atNumber d l zero = d
@@ -60,16 +59,19 @@ atNumber d l (suc i) = getD l i d
 unfoldable pub places : {A : Type 0} → (ℕ → A) → List A
 places f = map f (below largest)
 
+-- "The ring record holds .. each part's health": that of a part
 unfoldable pub healthOf : Health → PartHealth
 healthOf h (Generator k) = atNumber 0 (h .generators) k
 healthOf h (GeneratorBreaker k) = atNumber 0 (h .«generator_breakers») k
 healthOf h (BusBreaker k) = atNumber 0 (h .«bus_breakers») k
 
+-- ".. and its standing order.": that of a part
 unfoldable pub commandsOf : Commands → PartCommands
 commandsOf c (Generator k) = atNumber false (c .generators) k
 commandsOf c (GeneratorBreaker k) = atNumber false (c .«generator_breakers») k
 commandsOf c (BusBreaker k) = atNumber false (c .«bus_breakers») k
 
+-- each part's health, held in a record's arrays
 unfoldable pub healthPlaces : PartHealth → Health
 healthPlaces H =
     record {
@@ -78,6 +80,7 @@ healthPlaces H =
       «bus_breakers» = places (λ i. H (busBreaker i));
     }
 
+-- each part's command, held in a record's arrays
 unfoldable pub commandPlaces : PartCommands → Commands
 commandPlaces C =
     record {

@@ -28,11 +28,12 @@ unfoldable pub ascii : String → List ℕ
 ascii end = []
 ascii (c then s) = code c ∷ ascii s
 
--- a number in decimal, with at most d digits
+-- "Numbers here are decimal.": with at most d digits
 unfoldable pub digits : ℕ → ℕ → List ℕ
 digits zero k = []
 digits (suc d) k = let front = digits d (k / 10) in cond (ltb k 10) ((code "0" + k) ∷ []) (front ++ ((code "0" + k % 10) ∷ []))
 
+-- "Numbers here are decimal."
 unfoldable pub decimal : ℕ → List ℕ
 decimal k = digits (suc k) k
 
@@ -42,12 +43,13 @@ spaced [] = []
 spaced (t ∷ []) = t
 spaced (t ∷ u ∷ ts) = t ++ (code " " ∷ spaced (u ∷ ts))
 
--- a part's name: `G1`, `GB1`, `BB1`
+-- a kind's name, as in `G1+ GB1+ BB2+`
 unfoldable pub kindName : Part → List ℕ
 kindName (Generator k) = ascii "G"
 kindName (GeneratorBreaker k) = ascii "GB"
 kindName (BusBreaker k) = ascii "BB"
 
+-- a part's name: `G1`, `GB1`, `BB1`
 abbrev pub partName : Part → List ℕ
 partName p = kindName p ++ decimal (number p)
 
@@ -82,12 +84,13 @@ unfoldable pub reportLines : Ring → ℕ → List Report → List ℕ
 reportLines ring i [] = []
 reportLines ring i (r ∷ rs) = transitionLine i ring (nextHealth ring r) ++ reportLines (withPlan ring (nextHealth ring r)) (suc i) rs
 
--- the reports of a served file
+-- a report that was read, before others
 unfoldable pub withReport : ReportAnswer → List Report → List Report
 withReport (Read r) rs = r ∷ rs
 withReport (Refused k) rs = rs
 withReport Missing rs = rs
 
+-- the reports of a served file's part codes and words
 unfoldable pub reportsOf : ℕ → List ℕ → List ℕ → List Report
 reportsOf n [] vs = []
 reportsOf n (c ∷ cs) [] = []

@@ -8,6 +8,7 @@ pub enum Part {
     BusBreaker(u8),
 }
 
+// "Words: 0 fit again, 1 stuck off (generators), 2 stuck open, 3 stuck closed (breakers)."
 pub enum Word {
     Fit,
     StuckOff,
@@ -15,6 +16,7 @@ pub enum Word {
     StuckClosed,
 }
 
+// "A report holds a part .. and a word."
 pub struct Report {
     pub part: Part,
     pub word: Word,
@@ -72,6 +74,7 @@ pub enum Feed {
     Clash(u8, u8),
 }
 
+// The answer of one bus.
 pub struct BusFeed {
     pub feed: Feed,
 }

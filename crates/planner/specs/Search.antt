@@ -53,10 +53,11 @@ pathRises n b g p = cond (eqb p 0) (highRises n g b) (not (highRises n g b))
 abbrev pub pathCount : ℕ → ℕ → ℕ
 pathCount b g = cond (eqb g b) 1 2
 
--- the paths of the sources from place r on; and before them those of generator g from path p on
+-- the paths of the sources from place r on
 abbrev pub pathsAfter : ℕ → ℕ → ℕ → List Path
 pathsAfter n b r = flatMap (pathsFrom n b) (drop r (sources n b))
 
+-- .. and before them those of generator g from path p on
 abbrev pub pathsLeft : ℕ → ℕ → ℕ → ℕ → ℕ → List Path
 pathsLeft n b r g p = drop p (pathsFrom n b g) ++ pathsAfter n b (r + 1)
 

@@ -32,6 +32,7 @@ clear n B O g k (suc m) = let r = clear n B O g (next n k) m in not (stuckOpen (
 abbrev pub Between : ℕ → ℕ → ℕ → ℕ → Type 0
 Between n a e x = (x < n) × (up n a x ≤ up n a e)
 
+-- what a clear walk says
 pub record Clear (n : ℕ) (B O : ℕ → ℕ) (g a e : ℕ) : Type 0 where
   pub line : (i : ℕ) → i < n → up n a i < up n a e → stuckOpen (B i) ≡ false
   pub buses : (x : ℕ) → Between n a e x → free (O x) g ≡ true
@@ -130,6 +131,7 @@ next-previous n k hk = go (dec-eq k 0)
 abbrev pub breakerBeside : ℕ → Bool → ℕ → ℕ
 breakerBeside n r k = cond r k (previous n k)
 
+-- .. and the bus behind it
 abbrev pub busBeside : ℕ → Bool → ℕ → ℕ
 busBeside n r k = cond r (next n k) (previous n k)
 

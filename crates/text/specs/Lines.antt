@@ -17,28 +17,31 @@ use Rattle.model.specs.Sheet.{written}
 use Rattle.model.specs.Text.{transitionLine}
 use Rattle.text.specs.SheetLine.{room}
 
--- the start: its line, and the ring state after it
+-- the line of the start
 abbrev pub startLine : ℕ → List ℕ
 startLine n = transitionLine 0 (blankRing n) allFit
 
+-- .. and the ring state after it
 abbrev pub startRing : ℕ → Ring
 startRing n = withPlan (blankRing n) allFit
 
--- a report's line, none where no report stands; and the ring state after it
+-- a report's line, none where no report stands
 unfoldable pub lineOf : ReportAnswer → Ring → ℕ → List ℕ
 lineOf (Read r) ring i = transitionLine (suc i) ring (nextHealth ring r)
 lineOf (Refused k) ring i = []
 lineOf Missing ring i = []
 
+-- .. and the ring state after it
 unfoldable pub ringOf : ReportAnswer → Ring → Ring
 ringOf (Read r) ring = withPlan ring (nextHealth ring r)
 ringOf (Refused k) ring = ring
 ringOf Missing ring = ring
 
--- the same of the i-th report of a file's part codes and words
+-- the line of the i-th report of a file's part codes and words
 abbrev pub reportLine : Ring → List ℕ → List ℕ → ℕ → List ℕ
 reportLine ring cs ws i = lineOf (reportAt (ring .n) cs ws i) ring i
 
+-- .. and the ring state after it
 abbrev pub nextRing : Ring → List ℕ → List ℕ → ℕ → Ring
 nextRing ring cs ws i = ringOf (reportAt (ring .n) cs ws i) ring
 

@@ -25,10 +25,11 @@ use Rattle.text.specs.Operations.{phaseOf, opening-parts, closing-parts,
 abbrev pub stretch : ℕ → ℕ → List ℕ → List ℕ
 stretch from to bytes = take (to - from) (drop from bytes)
 
--- the sizes of the phases
+-- the size of the opening phase
 abbrev pub openingSize : List ℕ → ℕ
 openingSize bytes = getD bytes 0 0
 
+-- .. and of the closing phase
 abbrev pub closingSize : List ℕ → ℕ
 closingSize bytes = getD bytes 1 0
 
@@ -40,6 +41,7 @@ phaseAt bytes k from from′ = ascii " / " ++ phaseOf (stretch from (from + k) b
 abbrev pub openingText : List ℕ → List ℕ
 openingText bytes = let a = openingSize bytes in let b = closingSize bytes in phaseAt bytes a 2 (2 + a + b)
 
+-- .. and the closing phase
 abbrev pub closingText : List ℕ → List ℕ
 closingText bytes = let a = openingSize bytes in let b = closingSize bytes in phaseAt bytes b (2 + a) (2 + a + b + a)
 

@@ -76,6 +76,7 @@ fn append_number(k: usize, out: &mut [u8], at: usize) -> usize
 
 // ---- buses
 
+// The generator that a choice names.
 fn source(choice: Choice) -> u8
     ensures { λ r. ⌜ r ≡ choiceSource choice ⌝ }
 {
@@ -87,6 +88,7 @@ fn source(choice: Choice) -> u8
     }
 }
 
+// A choice's letter.
 fn letter(choice: Choice) -> u8
     ensures { λ r. ⌜ r ≡ choiceLetter choice ⌝ }
 {
@@ -247,6 +249,7 @@ fn sheet_line(i: usize, n: u8, choices: [BusChoice; 20], sheet: &[u8], out: &mut
     feed + 1
 }
 
+// A text as it is.
 fn append_text(text: &[u8], out: &mut [u8], at: usize) -> usize
     requires { ⌜ at + length (now text) ≤ length (now out) ⌝ }
     ensures { λ r. ⌜ Appended (now (text .entry)) (now (out .entry)) at (now (out .exit)) r ⌝ }

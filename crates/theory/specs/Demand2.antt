@@ -63,6 +63,7 @@ pub record Serves (n : ℕ) (P : PlantState) (reply : Reply) : Type 0 where
   pub closes-rising : RisingBy (λ (o : Operation). partCode (o .part)) (phases .second)
   pub brings-about : (Q : PlantState) → Performed phases P Q → (p : Part) → InRing n p → Q .last p ≡ true ↔ Needed n path p
 
+-- "For every list of reports": a statement about a controller
 pub record Demand2 (c : Controller) : Type 0 where
   pub start-serves : (n : ℕ) (buffer : List ℕ) → smallest ≤ n → n ≤ largest → isServed (c .start n buffer) ≡ true → Serves n freshPlant (c .start n buffer)
   pub call-serves : (n : ℕ) (buffer : List ℕ) → smallest ≤ n → n ≤ largest → isServed (c .start n buffer) ≡ true → {before : Calls} {W : World} (call : Call)

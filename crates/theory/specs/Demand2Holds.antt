@@ -220,10 +220,11 @@ needed-commanded n H p = (
 is-operation : (c : Bool) (o : Operation) → o .command ≡ c → o ≡ operation c (o .part)
 is-operation c o e = λ i. record { part = o .part; command = e i }
 
--- what is to open, and what is to close, for a plant
+-- what is to open, for a plant
 abbrev pub ToOpen : ℕ → PlantState → (ℕ → Option Path) → Operation → Type 0
 ToOpen n P f o = (o .command ≡ false) × InRing n (o .part) × (P .last (o .part) ≡ true) × (Needed n f (o .part) → ⊥)
 
+-- .. and what is to close
 abbrev pub ToClose : ℕ → PlantState → (ℕ → Option Path) → Operation → Type 0
 ToClose n P f o = (o .command ≡ true) × InRing n (o .part) × (P .last (o .part) ≡ false) × Needed n f (o .part)
 

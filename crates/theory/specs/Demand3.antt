@@ -59,6 +59,7 @@ effect StuckClosed = 3
 unfoldable pub afterWord : Report → PlantState → PlantState
 afterWord r P = record { health = λ p. cond (samePart p (r .part)) (effect (r .word)) (P .health p); last = P .last }
 
+-- the words of a call, one after the other
 unfoldable pub afterWords : List Report → PlantState → PlantState
 afterWords [] P = P
 afterWords (r ∷ rs) P = afterWords rs (afterWord r P)
@@ -79,6 +80,7 @@ performAll (o ∷ os) P = performAll os (perform o P)
 
 -- ---- the sheet, read from the bytes of the buffer
 
+-- both waves
 pub record Phases : Type 0 where
   pub first : List Operation
   pub second : List Operation
@@ -89,6 +91,7 @@ commandNamed zero = some false
 commandNamed (suc zero) = some true
 commandNamed (suc (suc b)) = none
 
+-- an operation before others, where its code and its command are ones
 unfoldable pub withOperation : Option Part → Option Bool → Option (List Operation) → Option (List Operation)
 withOperation none c os = none
 withOperation (some p) none os = none
@@ -102,6 +105,7 @@ operations n [] bs = some []
 operations n (c ∷ cs) [] = none
 operations n (c ∷ cs) (b ∷ bs) = withOperation (partNamed n c) (commandNamed b) (operations n cs bs)
 
+-- the first k operations are the first wave, the others the second
 unfoldable pub phasesAt : ℕ → Option (List Operation) → Option Phases
 phasesAt k none = none
 phasesAt k (some os) = some (record { first = take k os; second = drop k os })
@@ -129,20 +133,24 @@ pub data Begins (before : Calls) : Calls → Type 0 where
   whole : Begins before before
   longer : {calls : Calls} {call : Call} → Begins before calls → Begins before (calls then call)
 
--- what the controller gives; the words that a served call brings; the buffer that it is lent
+-- "Each step gets the record that the call before it returned": what the controller gives
 abbrev pub replyTo : Controller → Ring → Call → Reply
 replyTo c ring (step r buffer) = c .step ring r buffer
 
+-- the words that a served call brings
 abbrev pub words : Call → List Report
 words (step r buffer) = r ∷ []
 
+-- the buffer that a call is lent
 abbrev pub lent : Call → List ℕ
 lent (step r buffer) = buffer
 
+-- "whether each call was served", by its outcome
 abbrev pub servedOutcome : Outcome → Bool
 servedOutcome outcome.Served = true
 servedOutcome (outcome.Refused k) = false
 
+-- "whether each call was served"
 abbrev pub isServed : Reply → Bool
 isServed reply = servedOutcome (reply .answer .outcome)
 
@@ -173,12 +181,14 @@ pub data Moment (ph : Phases) (P : PlantState) : List Operation → PlantState �
   in-first : (done : List Operation) {rest : List Operation} → List·Permᴰ (done ++ rest) (ph .first) → Moment ph P rest (performAll done P)
   in-second : (xs done rest : List Operation) → List·Permᴰ xs (ph .first) → List·Permᴰ (done ++ rest) (ph .second) → Moment ph P [] (performAll done (performAll xs P))
 
+-- "word 3"
 abbrev pub isStuckClosed : Word → Bool
 isStuckClosed Fit = false
 isStuckClosed StuckOff = false
 isStuckClosed StuckOpen = false
 isStuckClosed StuckClosed = true
 
+-- "empty"
 abbrev pub isEmpty : {A : Type 0} → List A → Bool
 isEmpty [] = true
 isEmpty (x ∷ xs) = false
@@ -219,6 +229,7 @@ pub record RecordGiven (n : ℕ) (W : World) : Type 0 where
   pub standing : (p : Part) → InRing n p → commandsOf (W .ring .commands) p ≡ W .plant .last p
   pub above : (p : Part) → InRing largest p → n < number p → (healthOf (W .ring .health) p ≡ 0) × (commandsOf (W .ring .commands) p ≡ false)
 
+-- the operation of a part: off or open, or on or closed
 abbrev pub operation : Bool → Part → Operation
 operation c p = record { part = p; command = c }
 

@@ -24,6 +24,7 @@ up-cases n a b h = go (leb a b) refl
     go true e = let l = leb-true a b e in fwd l (rw (e, up) (omega arith))
     go false e = let l = leb-false a b e in wrap l (rw (e, up) (omega arith))
 
+-- the bus after bus i: one up, or the first after the last
 pub data Next (n i : ℕ) : Type 0 where
   more : suc i < n → next n i ≡ suc i → Next n i
   last : suc i ≡ n → next n i ≡ 0 → Next n i

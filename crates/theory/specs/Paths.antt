@@ -19,10 +19,11 @@ use Rattle.theory.specs.Geometry.{arc-at, arc-in}
 
 -- ---- what is on a path
 
--- the ends of a path, the one from which it rises first
+-- the end of a path from which its bus breakers rise
 abbrev pub lower : Path → ℕ
 lower w = cond (w .rising) (w .source) (w .bus)
 
+-- .. and the end to which they rise
 abbrev pub upper : Path → ℕ
 upper w = cond (w .rising) (w .bus) (w .source)
 

@@ -27,21 +27,27 @@ pub record Position : Type 0 where
   pub faults : List Report
   pub expected : List Choice
 
+-- "G1 off"
 abbrev generatorOff : ℕ → Report
 generatorOff g = record { part = Generator g; word = StuckOff }
 
+-- "GB2 open"
 abbrev generatorBreakerOpen : ℕ → Report
 generatorBreakerOpen g = record { part = GeneratorBreaker g; word = StuckOpen }
 
+-- "BB2 open"
 abbrev busBreakerOpen : ℕ → Report
 busBreakerOpen i = record { part = BusBreaker i; word = StuckOpen }
 
+-- "BB1 closed"
 abbrev busBreakerClosed : ℕ → Report
 busBreakerClosed i = record { part = BusBreaker i; word = StuckClosed }
 
+-- a position of the list
 abbrev position : ℕ → List Report → List Choice → Position
 position n fs cs = record { size = n; faults = fs; expected = cs }
 
+-- "* marks those to prove."
 unfoldable pub starred : List Position
 starred =
     position 3 [] (Own 1 ∷ Own 2 ∷ High 2 ∷ [])

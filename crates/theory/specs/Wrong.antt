@@ -282,15 +282,19 @@ callsOf (r ∷ rs) = callsOf rs then step r room
 abbrev case : Design → ℕ → List Report → Case
 case d n rs = record { design = d; size = n; reports = rs }
 
+-- G1 stuck off
 abbrev generator1Off : Report
 generator1Off = record { part = Generator 1; word = StuckOff }
 
+-- BB2 stuck open
 abbrev breaker2Open : Report
 breaker2Open = record { part = BusBreaker 2; word = StuckOpen }
 
+-- BB2 fit again
 abbrev breaker2Fit : Report
 breaker2Fit = record { part = BusBreaker 2; word = Fit }
 
+-- BB1 stuck closed
 abbrev breaker1Closed : Report
 breaker1Closed = record { part = BusBreaker 1; word = StuckClosed }
 
@@ -315,6 +319,7 @@ pub record Fails : Type 0 where
   pub clash : Bool
   pub answer : Bool
 
+-- the three tests
 abbrev fails : Bool → Bool → Bool → Fails
 fails e c a = record { end = e; clash = c; answer = a }
 
@@ -327,6 +332,7 @@ failsOf k =
 abbrev refuted3 : Case → Bool
 refuted3 k = leb smallest (k .size) && leb (k .size) largest && (failsOf k .end || failsOf k .clash || failsOf k .answer)
 
+-- .. and demand 2
 abbrev refuted2 : Case → Bool
 refuted2 k = leb smallest (k .size) && leb (k .size) largest && failsOf k .answer
 

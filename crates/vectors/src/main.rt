@@ -15,6 +15,7 @@ fn read_front(stored: i32, buffer: &mut [u8], size: usize) {
     }
 }
 
+// Whether two buffers have the same bytes in front.
 fn fronts_agree(ours: &[u8], expected: &[u8], length: usize) -> bool {
     if ours.len() < length {
         return false;
@@ -60,12 +61,14 @@ fn served_agrees(stored: i32, n: u8, codes: &[u8], words: &[u8]) -> bool
     header_agrees && start_agrees && reports_agree(stored, ring, codes, words)
 }
 
+// The text of a refused file.
 fn refused_agrees(stored: i32, k: u8) -> bool {
     let mut out = [0u8; 640];
     let length = text::refused_text(k, &mut out);
     next_is(stored, &out, length)
 }
 
+// The run of a file.
 fn run_agrees(stored: i32, file: &[u8]) -> bool {
     match reports::check_file(file) {
         FileAnswer::Refused(k) => refused_agrees(stored, k),

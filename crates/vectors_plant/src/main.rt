@@ -16,6 +16,7 @@ fn same_feed(bus: BusFeed, kind: u8, first: u8, second: u8) -> bool {
     }
 }
 
+// Whether the buses have the answers of the case, three bytes each.
 fn same_feeds(answer: FeedsAnswer, case: &[u8; 182]) -> bool {
     let buses = answer.buses;
     let mut same = true;
@@ -26,6 +27,7 @@ fn same_feeds(answer: FeedsAnswer, case: &[u8; 182]) -> bool {
     same
 }
 
+// Whether the reckoning of the case is the simulation's.
 fn agrees(case: &[u8; 182]) -> bool {
     let health = Health {
         generators: cases::bytes_at(case, 1),

@@ -11,6 +11,7 @@ use model::Ring;
 use model::RingAnswer;
 use model::Word;
 
+// The record of a case.
 fn ring_of(case: &[u8; 288]) -> Ring {
     Ring {
         n: case[0],
@@ -27,6 +28,7 @@ fn ring_of(case: &[u8; 288]) -> Ring {
     }
 }
 
+// The part of a case.
 fn part_of(kind: u8, number: u8) -> Part {
     match kind {
         0 => Part::Generator(number),
@@ -35,6 +37,7 @@ fn part_of(kind: u8, number: u8) -> Part {
     }
 }
 
+// The word of a case.
 fn word_of(number: u8) -> Word {
     match number {
         0 => Word::Fit,
@@ -55,6 +58,7 @@ fn same_choice(bus: BusChoice, letter: u8, source: u8) -> bool {
     }
 }
 
+// Whether the buses have the choices of the case, two bytes each.
 fn same_choices(choices: [BusChoice; 20], case: &[u8; 288]) -> bool {
     let mut same = true;
     for b in 0..20 {
@@ -72,6 +76,7 @@ fn same_bytes_at(values: [u8; 20], case: &[u8; 288], from: usize) -> bool
     cases::same_bytes(&values, &expected)
 }
 
+// Whether an array is the twenty commands of a case from an index on.
 fn same_commands(values: [bool; 20], case: &[u8; 288], from: usize) -> bool
     requires { ⌜ from ≤ 268 ⌝ }
 {
@@ -83,6 +88,7 @@ fn same_commands(values: [bool; 20], case: &[u8; 288], from: usize) -> bool
     same
 }
 
+// Whether the record after the call has the case's health.
 fn same_health(health: Health, case: &[u8; 288]) -> bool {
     let generators = health.generators;
     let generator_breakers = health.generator_breakers;
@@ -92,6 +98,7 @@ fn same_health(health: Health, case: &[u8; 288]) -> bool {
         && same_bytes_at(bus_breakers, case, 168)
 }
 
+// Whether the record after the call has the case's commands.
 fn same_standing(commands: Commands, case: &[u8; 288]) -> bool {
     let generators = commands.generators;
     let generator_breakers = commands.generator_breakers;
@@ -113,6 +120,7 @@ fn answer_of(case: &[u8; 288], buffer: &mut [u8]) -> RingAnswer {
     control::step(ring_of(case), report, buffer)
 }
 
+// Whether the whole answer is the simulation's.
 fn agrees(case: &[u8; 288], buffer: &mut [u8], expected: &[u8]) -> bool {
     let answer = answer_of(case, buffer);
     let outcome = answer.outcome;
@@ -128,6 +136,7 @@ fn agrees(case: &[u8; 288], buffer: &mut [u8], expected: &[u8]) -> bool {
         && cases::same_bytes(buffer, expected)
 }
 
+// A byte as a length.
 fn wide(byte: u8) -> usize {
     byte as usize
 }
