@@ -66,6 +66,7 @@ module _ (ring : Ring) where
   unfolding badRecord anyOf
   bad-above a b c = rw (a, b, c)
 
-  pub bad-commands : sizeOutside (ring .n) ≡ false → healthOutside H (parts largest) ≡ false → activeAbove (ring .n) H C ≡ false → unplanned (ring .n) H C ≡ badRecord ring
+  pub bad-commands : sizeOutside (ring .n) ≡ false → healthOutside H (parts largest) ≡ false → activeAbove (ring .n) H C ≡ false
+      → unplanned (ring .n) H C ≡ badRecord ring
   unfolding badRecord anyOf
   bad-commands a b c = rw (a, b, c) (sym (or-false (unplanned (ring .n) H C)))

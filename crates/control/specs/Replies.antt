@@ -21,7 +21,8 @@ use Rattle.transition.specs.Advance.{refusedAnswer, Gives}
 abbrev pub Numbered : RingAnswer → List ℕ → Reply → ℕ → Type 0
 Numbered r after reply k = (r ≡ reply .answer) × ((after ≡ reply .buffer) × (outcomeNumber (r .outcome) ≡ k))
 
-numbered : (k : ℕ) (ring blank : Ring) (H : PartHealth) (buffer : List ℕ) → outcomeNumber (cond (eqb k 0) (servedReply ring H buffer) (refusedReply k blank buffer) .answer .outcome) ≡ k
+numbered : (k : ℕ) (ring blank : Ring) (H : PartHealth) (buffer : List ℕ)
+    → outcomeNumber (cond (eqb k 0) (servedReply ring H buffer) (refusedReply k blank buffer) .answer .outcome) ≡ k
 unfolding servedReply refusedReply outcomeOf
 numbered k ring blank H buffer = go (eqb k 0) refl
   where
@@ -32,7 +33,8 @@ numbered k ring blank H buffer = go (eqb k 0) refl
 module _ (n : ℕ) (buffer : List ℕ) (r : RingAnswer) where
   pub start-numbered : (after : List ℕ) → Gives r after (startReply n buffer) → Numbered r after (startReply n buffer) (startRefusal n (length buffer))
   unfolding startReply
-  start-numbered after g = (g .0, (g .1, ap (λ (x : RingAnswer). outcomeNumber (x .outcome)) (g .0) ∙ numbered (startRefusal n (length buffer)) (blankRing n) (blankRing 0) allFit buffer))
+  start-numbered after g =
+      (g .0, (g .1, ap (λ (x : RingAnswer). outcomeNumber (x .outcome)) (g .0) ∙ numbered (startRefusal n (length buffer)) (blankRing n) (blankRing 0) allFit buffer))
 
   -- 2 comes first
   pub start-refused : sizeOutside n ≡ true → r ≡ refusedAnswer 2 (blankRing 0) → Numbered r buffer (startReply n buffer) (startRefusal n (length buffer))
@@ -40,9 +42,11 @@ module _ (n : ℕ) (buffer : List ℕ) (r : RingAnswer) where
   start-refused e is = start-numbered buffer (rw e (is, refl))
 
 module _ (ring : Ring) (report : Report) (buffer : List ℕ) (r : RingAnswer) where
-  pub step-numbered : (after : List ℕ) → Gives r after (stepReply ring report buffer) → Numbered r after (stepReply ring report buffer) (stepRefusal ring report (length buffer))
+  pub step-numbered : (after : List ℕ) → Gives r after (stepReply ring report buffer)
+      → Numbered r after (stepReply ring report buffer) (stepRefusal ring report (length buffer))
   unfolding stepReply
-  step-numbered after g = (g .0, (g .1, ap (λ (x : RingAnswer). outcomeNumber (x .outcome)) (g .0) ∙ numbered (stepRefusal ring report (length buffer)) ring ring (nextHealth ring report) buffer))
+  step-numbered after g =
+      (g .0, (g .1, ap (λ (x : RingAnswer). outcomeNumber (x .outcome)) (g .0) ∙ numbered (stepRefusal ring report (length buffer)) ring ring (nextHealth ring report) buffer))
 
   -- 9 comes first
   pub step-refused : badRecord ring ≡ true → r ≡ refusedAnswer 9 ring → Numbered r buffer (stepReply ring report buffer) (stepRefusal ring report (length buffer))

@@ -46,7 +46,8 @@ set-all-length x [] l = refl
 set-all-length x (i ∷ is) l = set-all-length x is (set l i x) ∙ length-set l i x
 
 -- stores into an array that holds f
-pub set-all-places : {A : Type 0} (f : ℕ → A) (x : A) (is : List ℕ) → ((i : ℕ) → i ∈ is → i < largest) → setAll x is (places f) ≡ places (λ v. cond (anyOf (eqb v) is) x (f v))
+pub set-all-places : {A : Type 0} (f : ℕ → A) (x : A) (is : List ℕ) → ((i : ℕ) → i ∈ is → i < largest)
+    → setAll x is (places f) ≡ places (λ v. cond (anyOf (eqb v) is) x (f v))
 set-all-places f x is h =
     is-places (λ v. cond (anyOf (eqb v) is) x (f v)) (setAll x is (places f)) x (set-all-length x is (places f) ∙ places-length f)
     (λ v l. set-all-at x x is (places f) v (λ i m. rw (places-length f) (h i m)) ∙ rw (places-at f v x l))

@@ -167,7 +167,8 @@ module _ {n : ℕ} {H : PartHealth} {ws : List Path} {w : Path} (safe : Safe n H
       home : (y : Path) → y ∈ ws → Leads n before (y .source) (w .source) → y .source ≡ w .source
       home y m t = same y m (w .source, ends-in h .0, t)
 
-      go : (a ≡ w) ⊎ (a ∈ ws) → (b ≡ w) ⊎ (b ∈ ws) → Leads n before (a .source) (b .source) ⊎ (Near n before (Along n w) (a .source) × Near n before (Along n w) (b .source)) → a .source ≡ b .source
+      go : (a ≡ w) ⊎ (a ∈ ws) → (b ≡ w) ⊎ (b ∈ ws)
+          → Leads n before (a .source) (b .source) ⊎ (Near n before (Along n w) (a .source) × Near n before (Along n w) (b .source)) → a .source ≡ b .source
       go (inl p) (inl q) t = rw (p, q)
       go (inr p) (inr q) (inl t) = safe .isolates a b p q t
       go (inr p) (inr q) (inr t) = same a p (t .0) ∙ sym (same b q (t .1))
@@ -208,7 +209,8 @@ module _ {n : ℕ} {H : PartHealth} {ws : List Path} {w : Path} (safe : Safe n H
           (frees (λ x b. rw (is x (b .0)) at (c .buses x b)))
 
   -- a permitted path gives its generator every bus connected to a bus s of it, and the others keep their owners
-  pub owner-more : permitted n H ws w ≡ true → (s v : ℕ) → Along n w s → v < n → owner n H (w ∷ ws) v ≡ cond (connected n (countedClosed n H (w ∷ ws)) s v) (suc (w .source)) (owner n H ws v)
+  pub owner-more : permitted n H ws w ≡ true → (s v : ℕ) → Along n w s → v < n
+      → owner n H (w ∷ ws) v ≡ cond (connected n (countedClosed n H (w ∷ ws)) s v) (suc (w .source)) (owner n H ws v)
   owner-more e s v hs hv = go (dec (connected n after s v))
     where
       safer : Safe n H (w ∷ ws)
@@ -236,7 +238,8 @@ module _ {n : ℕ} {H : PartHealth} {ws : List Path} {w : Path} (safe : Safe n H
       go (inr j) = rw j (other j (owner n H ws v) (owner n H (w ∷ ws) v) refl refl)
 
 -- the first path that passes is the choice
-pub walk-choice : (n : ℕ) (H : PartHealth) (ws : List Path) (O : ℕ → ℕ) (b : ℕ) → b < n → Safe n H ws → ((v : ℕ) → v < n → O v ≡ owner n H ws v) → choose n H ws b ≡ first (passes n H O) (paths n b)
+pub walk-choice : (n : ℕ) (H : PartHealth) (ws : List Path) (O : ℕ → ℕ) (b : ℕ) → b < n → Safe n H ws → ((v : ℕ) → v < n → O v ≡ owner n H ws v)
+    → choose n H ws b ≡ first (passes n H O) (paths n b)
 unfolding choose
 walk-choice n H ws O b hb safe is =
     first-ext (permitted n H ws) (passes n H O) (paths n b) (λ w m. let t = tried-at n b w hb m in walk-permits safe (record { source = t .0; bus = rw (t .1) hb }) O is)

@@ -95,9 +95,12 @@ choicesTo n H b = places (λ v. record { choice = cond (ltb v b) (choiceOf n (pl
 -- ---- the parts of one path more
 
 -- a part of one kind on the path, by a test of its index
-on-more : (n : ℕ) (ws : List Path) (w : Path) (p : Part) (t : Bool) → (t ≡ true → p ∈ pathParts n w) → (p ∈ pathParts n w → t ≡ true) → cond t true (onPaths n ws p) ≡ onPaths n (w ∷ ws) p
+on-more : (n : ℕ) (ws : List Path) (w : Path) (p : Part) (t : Bool) → (t ≡ true → p ∈ pathParts n w) → (p ∈ pathParts n w → t ≡ true)
+    → cond t true (onPaths n ws p) ≡ onPaths n (w ∷ ws) p
 unfolding onPaths anyOf
-on-more n ws w p t f g = either t (onPaths n ws p) ∙ ap (λ x. x || onPaths n ws p) (iff t (anyOf (samePart p) (pathParts n w)) (λ e. any-in (samePart p) (f e) (same-refl p)) (λ e. g (member e)))
+on-more n ws w p t f g =
+    either t (onPaths n ws p)
+    ∙ ap (λ x. x || onPaths n ws p) (iff t (anyOf (samePart p) (pathParts n w)) (λ e. any-in (samePart p) (f e) (same-refl p)) (λ e. g (member e)))
   where
     either : (a c : Bool) → cond a true c ≡ a || c
     either true c = refl
@@ -113,7 +116,8 @@ module _ (n : ℕ) (ws : List Path) (w : Path) (part : ℕ → Part) (on : part 
       set-places (λ v. onPaths n ws (part v)) true (w .source)
       ∙ places-ext _ _ (λ v l. on-more n ws w (part v) (eqb v (w .source)) (λ e. rw (eqb-true v (w .source) e) on) (λ m. eq-eqb v (w .source) (only v m)))
 
-bus-breaker-more : (n : ℕ) (ws : List Path) (w : Path) (v : ℕ) → Ends n w → cond (anyOf (eqb v) (arc n (lower w) (pathSteps n w))) true (onPaths n ws (busBreaker v)) ≡ onPaths n (w ∷ ws) (busBreaker v)
+bus-breaker-more : (n : ℕ) (ws : List Path) (w : Path) (v : ℕ) → Ends n w
+    → cond (anyOf (eqb v) (arc n (lower w) (pathSteps n w))) true (onPaths n ws (busBreaker v)) ≡ onPaths n (w ∷ ws) (busBreaker v)
 bus-breaker-more n ws w v h = on-more n ws w (busBreaker v) (anyOf (eqb v) line) to from
   where
     line : List ℕ
@@ -163,7 +167,8 @@ module _ (n : ℕ) (H : PartHealth) (b : ℕ) (hb : b < n) where
         set-all-places (λ i. onPaths n (chosen n H b) (busBreaker i)) true (arc n (lower w) (pathSteps n w)) (λ i m. omega (arith, arc-at n (lower w) (pathSteps n w) i (lower-lt (ends .0)) m .0))
         ∙ places-ext _ _ (λ v l. bus-breaker-more n (chosen n H b) w v (ends .0))
 
-    commanded : (l : List Bool) → l ≡ places (λ i. onPaths n (w ∷ chosen n H b) (busBreaker i)) → commandsWith (served n H b) (w .source) l ≡ commandPlaces (onPaths n (w ∷ chosen n H b))
+    commanded : (l : List Bool) → l ≡ places (λ i. onPaths n (w ∷ chosen n H b) (busBreaker i))
+        → commandsWith (served n H b) (w .source) l ≡ commandPlaces (onPaths n (w ∷ chosen n H b))
     unfolding served commandPlaces
     commanded l e =
         rw (e, source-set n (chosen n H b) w generator (source-on n w) (generator-on n w), source-set n (chosen n H b) w generatorBreaker (breaker-on n w) (generator-breaker-on n w))
@@ -183,8 +188,11 @@ module _ (n : ℕ) (H : PartHealth) (b : ℕ) (hb : b < n) where
       not-reached : (r : Bool) (v : ℕ) → n ≤ v → anyOf (eqb v) (reach n counted r (w .bus) n) ≡ false
       not-reached r v hv = go (dec (anyOf (eqb v) (reach n counted r (w .bus) n)))
         where
-          go : (anyOf (eqb v) (reach n counted r (w .bus) n) ≡ true) ⊎ (anyOf (eqb v) (reach n counted r (w .bus) n) ≡ false) → anyOf (eqb v) (reach n counted r (w .bus) n) ≡ false
-          go (inl q) = let t = any-at (eqb v) (reach n counted r (w .bus) n) q in absurd (omega (arith, eqb-true v (t .0) (t .2), reach-at n counted r n (w .bus) (t .0) bus-lt (t .1) .0))
+          go : (anyOf (eqb v) (reach n counted r (w .bus) n) ≡ true) ⊎ (anyOf (eqb v) (reach n counted r (w .bus) n) ≡ false)
+              → anyOf (eqb v) (reach n counted r (w .bus) n) ≡ false
+          go (inl q) =
+              let t = any-at (eqb v) (reach n counted r (w .bus) n) q in
+              absurd (omega (arith, eqb-true v (t .0) (t .2), reach-at n counted r n (w .bus) (t .0) bus-lt (t .1) .0))
           go (inr q) = q
 
       owns : setAll (suc (w .source)) (reach n counted false (w .bus) n) (setAll (suc (w .source)) (reach n counted true (w .bus) n) (served n H b .owners)) ≡ places (λ v. cond (ltb v n) (owner n H (w ∷ chosen n H b) v) 0)
@@ -205,7 +213,8 @@ module _ (n : ℕ) (H : PartHealth) (b : ℕ) (hb : b < n) where
           inside : (r : Bool) (i : ℕ) → i ∈ reach n counted r (w .bus) n → i < largest
           inside r i m = omega (arith, reach-at n counted r n (w .bus) i bus-lt m .0)
 
-          each : (v : ℕ) → (v < n) ⊎ (n ≤ v) → cond (anyOf (eqb v) (reach n counted false (w .bus) n)) g (cond (rises v) g (old v)) ≡ cond (ltb v n) (owner n H (w ∷ chosen n H b) v) 0
+          each : (v : ℕ) → (v < n) ⊎ (n ≤ v)
+              → cond (anyOf (eqb v) (reach n counted false (w .bus) n)) g (cond (rises v) g (old v)) ≡ cond (ltb v n) (owner n H (w ∷ chosen n H b) v) 0
           each v (inl hv) =
               rw (lt-ltb v n hv)
               (both g g (rises v) (anyOf (eqb v) (reach n counted false (w .bus) n)) (owner n H (chosen n H b) v)

@@ -147,7 +147,8 @@ no-candidate n usable breakers owners b g hb hg e w s t = go (dec (passesBy n us
     go (inr p) = p
 
 -- path p of a candidate passes as its walk says
-pub candidate-walk : (n : ℕ) (usable : List Bool) (breakers owners : List ℕ) (b g p : ℕ) (rising t : Bool) → candidateBy usable owners b g ≡ true → rising ≡ pathRises n b g p
+pub candidate-walk : (n : ℕ) (usable : List Bool) (breakers owners : List ℕ) (b g p : ℕ) (rising t : Bool) → candidateBy usable owners b g ≡ true
+    → rising ≡ pathRises n b g p
     → t ≡ clearPath n (at breakers) (at owners) (pathTo b g rising) → passesBy n usable breakers owners (pathTo b g (pathRises n b g p)) ≡ t
 unfolding passesBy
 candidate-walk n usable breakers owners b g p rising t c e d = rw (← e, and-left (getD usable g false) _ c, d)

@@ -23,7 +23,8 @@ pub refusal-ext : (n : ℕ) (H K : PartHealth) → Agree n H K → feedsRefusal 
 unfolding feedsRefusal healthOutside
 refusal-ext n H K same = rw (any-ext (λ p. not (healthOfKind p (H p))) (λ p. not (healthOfKind p (K p))) (parts n) (λ p m. rw (same p (parts-at n p m))))
 
-pub answer-ext : (n : ℕ) (h k : Health) (c d : Commands) → Agree n (healthOf h) (healthOf k) → Agree n (commandsOf c) (commandsOf d) → feedsAnswer n h c ≡ feedsAnswer n k d
+pub answer-ext : (n : ℕ) (h k : Health) (c d : Commands) → Agree n (healthOf h) (healthOf k) → Agree n (commandsOf c) (commandsOf d)
+    → feedsAnswer n h c ≡ feedsAnswer n k d
 unfolding feedsAnswer
 answer-ext n h k c d same both =
     rw (refusal-ext n (healthOf h) (healthOf k) same)

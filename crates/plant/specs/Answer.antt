@@ -40,12 +40,16 @@ module _ (n : ℕ) (h : Health) (c : Commands) where
   -- the numbers that each bus's answer names
   sources-named : map (λ bus. feedSources (bus .feed)) (feedsAnswer n h c .buses) ≡ places (sourcesNamed n h c)
   unfolding feedsAnswer busFeed places sourcesNamed
-  sources-named = map-map (λ bus. feedSources (bus .feed)) _ (below largest) ∙ map-ext _ _ (below largest) (λ b m. feed-sources (eqb (feedsRefusal n (healthOf h)) 0 && ltb b n) (feeders n (healthOf h) (commandsOf c) b))
+  sources-named =
+      map-map (λ bus. feedSources (bus .feed)) _ (below largest)
+      ∙ map-ext _ _ (below largest) (λ b m. feed-sources (eqb (feedsRefusal n (healthOf h)) 0 && ltb b n) (feeders n (healthOf h) (commandsOf c) b))
 
   -- the numbers and values of the whole answer
-  pub answered : (r : FeedsAnswer) → r ≡ feedsAnswer n h c → (r ≡ feedsAnswer n h c) × ((outcomeNumber (r .outcome) ≡ feedsRefusal n (healthOf h)) × (map (λ bus. feedSources (bus .feed)) (r .buses) ≡ places (sourcesNamed n h c)))
+  pub answered : (r : FeedsAnswer) → r ≡ feedsAnswer n h c
+      → (r ≡ feedsAnswer n h c) × ((outcomeNumber (r .outcome) ≡ feedsRefusal n (healthOf h)) × (map (λ bus. feedSources (bus .feed)) (r .buses) ≡ places (sourcesNamed n h c)))
   unfolding feedsAnswer
-  answered r e = (e, (ap (λ a. outcomeNumber (a .outcome)) e ∙ outcome-number (feedsRefusal n (healthOf h)), ap (λ a. map (λ bus. feedSources (bus .feed)) (a .buses)) e ∙ sources-named))
+  answered r e =
+      (e, (ap (λ a. outcomeNumber (a .outcome)) e ∙ outcome-number (feedsRefusal n (healthOf h)), ap (λ a. map (λ bus. feedSources (bus .feed)) (a .buses)) e ∙ sources-named))
 
   -- refused by 2, by 9, or served
   pub size-refused : sizeOutside n ≡ true → refusedAnswer 2 ≡ feedsAnswer n h c
@@ -56,6 +60,7 @@ module _ (n : ℕ) (h : Health) (c : Commands) where
   unfolding feedsAnswer feedsRefusal firstMet outcomeOf
   health-refused e f = rw (e, f)
 
-  pub served : sizeOutside n ≡ false → healthOutside (healthOf h) (parts n) ≡ false → record { outcome = Served; buses = feedsBelow (busFeed n (healthOf h) (commandsOf c)) n } ≡ feedsAnswer n h c
+  pub served : sizeOutside n ≡ false → healthOutside (healthOf h) (parts n) ≡ false
+      → record { outcome = Served; buses = feedsBelow (busFeed n (healthOf h) (commandsOf c)) n } ≡ feedsAnswer n h c
   unfolding feedsAnswer feedsRefusal firstMet outcomeOf feedsBelow
   served e f = rw (e, f)

@@ -117,7 +117,8 @@ one-report : (n c v rest : ℕ) → outcomeOf (orElse (reportValues (reportAnswe
 unfolding reportAnswer reportOf outcomeOf
 one-report n c v rest = go (partNamed n c) (wordNamed v)
   where
-    by-number : (k : ℕ) (r : Report) → (eqb k 0 ≡ true) ⊎ (eqb k 0 ≡ false) → outcomeOf (orElse (reportValues (cond (eqb k 0) (report.Read r) (report.Refused k)) .0) rest) ≡ thenRest (cond (eqb k 0) (report.Read r) (report.Refused k)) (outcomeOf rest)
+    by-number : (k : ℕ) (r : Report) → (eqb k 0 ≡ true) ⊎ (eqb k 0 ≡ false)
+        → outcomeOf (orElse (reportValues (cond (eqb k 0) (report.Read r) (report.Refused k)) .0) rest) ≡ thenRest (cond (eqb k 0) (report.Read r) (report.Refused k)) (outcomeOf rest)
     by-number k r (inl q) = rw q
     by-number k r (inr q) = simp q
 

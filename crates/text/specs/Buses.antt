@@ -72,7 +72,8 @@ module _ (cs : List BusChoice) where
       → behindSpaces (map (busText cs) (below (b + 1)))
       ≡ behindSpaces (map (busText cs) (below b)) ++ busBehindSpace (b + 1) (choiceAt cs b)
   unfolding below busText ascii
-  buses-more b = rw (add-one, map-append, append-assoc (decimal (suc b)) (code "=" ∷ []) (choiceText (choiceAt cs b))) (behind-one (map (busText cs) (below b)) (busText cs b))
+  buses-more b =
+      rw (add-one, map-append, append-assoc (decimal (suc b)) (code "=" ∷ []) (choiceText (choiceAt cs b))) (behind-one (map (busText cs) (below b)) (busText cs b))
 
   -- ` B20=G20h` is the longest
   pub buses-length : (n : ℕ) → n ≤ largest → AllNamed n cs → length (behindSpaces (map (busText cs) (below n))) ≤ 9 * n

@@ -100,7 +100,8 @@ firstOperations codes commands i = behindSpaces (zipWith operationText (take i c
 
 module _ (codes commands : List ℕ) (i : ℕ) (e : length commands ≡ length codes) where
   -- one operation more
-  pub first-more : i < length codes → firstOperations codes commands (i + 1) ≡ firstOperations codes commands i ++ (ascii " " ++ operationText (getD codes i 0) (getD commands i 0))
+  pub first-more : i < length codes
+      → firstOperations codes commands (i + 1) ≡ firstOperations codes commands i ++ (ascii " " ++ operationText (getD codes i 0) (getD commands i 0))
   unfolding ascii
   first-more h =
       let l : length (take i codes) ≡ length (take i commands) = length-take-le i codes (omega arith) ∙ sym (length-take-le i commands (omega arith)) in

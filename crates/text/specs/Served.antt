@@ -83,7 +83,8 @@ module _ (ring : Ring) (H : PartHealth) (small : ring .n ≤ largest) (buffer : 
     unfolding servedReply
     served-sheet = rw stored transition-sheet
 
-    pub served-stored : (i : ℕ) → i < 10000 → 0 < ring .n → (before out : List ℕ) (size : ℕ) → out ≡ written (sheetLine i (ring .n) (a .choices) after) before → size ≡ length (sheetLine i (ring .n) (a .choices) after) → Stored (transitionLine i ring H) before out size
+    pub served-stored : (i : ℕ) → i < 10000 → 0 < ring .n → (before out : List ℕ) (size : ℕ) → out ≡ written (sheetLine i (ring .n) (a .choices) after) before
+        → size ≡ length (sheetLine i (ring .n) (a .choices) after) → Stored (transitionLine i ring H) before out size
     unfolding servedReply
     served-stored i few big before out size e f =
         let t : sheetLine i (ring .n) (a .choices) after ≡ transitionLine i ring H = rw (answered, stored) (transition-line i) in
@@ -97,7 +98,8 @@ room-enough ring H small buffer h =
     let fits = sheet-fits (ring .n) (commandsOf (ring .commands)) (commands (ring .n) H) small in
     le-ltb (length buffer) (length (sheet (ring .n) (commandsOf (ring .commands)) (commands (ring .n) H))) (omega arith)
 
-conditions-pass : (ring : Ring) → badRecord ring ≡ false → (r : Report) (room : ℕ) → firstMet (reportConditions (ring .n) r) ≡ 0 → tooShort room (nextSheet ring (nextHealth ring r)) ≡ false → stepRefusal ring r room ≡ 0
+conditions-pass : (ring : Ring) → badRecord ring ≡ false → (r : Report) (room : ℕ) → firstMet (reportConditions (ring .n) r) ≡ 0
+    → tooShort room (nextSheet ring (nextHealth ring r)) ≡ false → stepRefusal ring r room ≡ 0
 unfolding stepRefusal firstMet reportConditions
 conditions-pass ring good r room checked fits = rw (good, fits) checked
 
@@ -134,7 +136,8 @@ module _ (n : ℕ) (big : smallest ≤ n) (small : n ≤ largest) (buffer : List
   unfolding blankRing
   start-sheet = served-sheet (blankRing n) allFit small buffer a after (served .0) (served .1)
 
-  pub start-stored : (before out : List ℕ) (size : ℕ) → out ≡ written (sheetLine 0 n (a .choices) after) before → size ≡ length (sheetLine 0 n (a .choices) after) → Stored (startLine n) before out size
+  pub start-stored : (before out : List ℕ) (size : ℕ) → out ≡ written (sheetLine 0 n (a .choices) after) before → size ≡ length (sheetLine 0 n (a .choices) after)
+      → Stored (startLine n) before out size
   unfolding blankRing
   start-stored = served-stored (blankRing n) allFit small buffer a after (served .0) (served .1) 0 (omega arith) (omega arith)
 
@@ -170,7 +173,8 @@ module _ (ring : Ring) (good : badRecord ring ≡ false) (small : ring .n ≤ la
     pub step-sheet : SheetBytes after
     step-sheet = served-sheet ring (nextHealth ring r) small buffer a after (step-served .0) (step-served .1)
 
-    pub step-stored : (i : ℕ) → i < 10000 → 0 < ring .n → (before out : List ℕ) (size : ℕ) → out ≡ written (sheetLine i (ring .n) (a .choices) after) before → size ≡ length (sheetLine i (ring .n) (a .choices) after) → Stored (transitionLine i ring (nextHealth ring r)) before out size
+    pub step-stored : (i : ℕ) → i < 10000 → 0 < ring .n → (before out : List ℕ) (size : ℕ) → out ≡ written (sheetLine i (ring .n) (a .choices) after) before
+        → size ≡ length (sheetLine i (ring .n) (a .choices) after) → Stored (transitionLine i ring (nextHealth ring r)) before out size
     step-stored = served-stored ring (nextHealth ring r) small buffer a after (step-served .0) (step-served .1)
 
 -- ---- reports that are read
@@ -195,7 +199,8 @@ read-checked n cs ws i r e = outer (ltb i (length cs) && ltb i (length ws)) e
     outer false e = let z : _≡_ {A = ℕ} 0 1 = cc in absurd (omega arith)
 
 -- what is answered of a report that is read, and of one that is not
-pub read-line : (ring : Ring) (cs ws : List ℕ) (i : ℕ) (r : Report) → reportAt (ring .n) cs ws i ≡ Read r → (reportLine ring cs ws i ≡ transitionLine (i + 1) ring (nextHealth ring r)) × (nextRing ring cs ws i ≡ withPlan ring (nextHealth ring r))
+pub read-line : (ring : Ring) (cs ws : List ℕ) (i : ℕ) (r : Report) → reportAt (ring .n) cs ws i ≡ Read r
+    → (reportLine ring cs ws i ≡ transitionLine (i + 1) ring (nextHealth ring r)) × (nextRing ring cs ws i ≡ withPlan ring (nextHealth ring r))
 unfolding lineOf ringOf
 read-line ring cs ws i r e = (rw (e, add-one), rw e)
 
@@ -204,10 +209,12 @@ nothing : (buffer : List ℕ) → Stored [] buffer buffer 0
 unfolding written
 nothing buffer = record { bytes = refl; sized = refl; fits = omega arith }
 
-pub refused-line : (ring : Ring) (cs ws : List ℕ) (i k : ℕ) → reportAt (ring .n) cs ws i ≡ Refused k → (ring ≡ nextRing ring cs ws i) × ((buffer : List ℕ) → Stored (reportLine ring cs ws i) buffer buffer 0)
+pub refused-line : (ring : Ring) (cs ws : List ℕ) (i k : ℕ) → reportAt (ring .n) cs ws i ≡ Refused k
+    → (ring ≡ nextRing ring cs ws i) × ((buffer : List ℕ) → Stored (reportLine ring cs ws i) buffer buffer 0)
 unfolding lineOf ringOf
 refused-line ring cs ws i k e = (rw e refl, rw e nothing)
 
-pub missing-line : (ring : Ring) (cs ws : List ℕ) (i : ℕ) → reportAt (ring .n) cs ws i ≡ Missing → (ring ≡ nextRing ring cs ws i) × ((buffer : List ℕ) → Stored (reportLine ring cs ws i) buffer buffer 0)
+pub missing-line : (ring : Ring) (cs ws : List ℕ) (i : ℕ) → reportAt (ring .n) cs ws i ≡ Missing
+    → (ring ≡ nextRing ring cs ws i) × ((buffer : List ℕ) → Stored (reportLine ring cs ws i) buffer buffer 0)
 unfolding lineOf ringOf
 missing-line ring cs ws i e = (rw e refl, rw e nothing)

@@ -119,7 +119,8 @@ module _ (bytes : List ℕ) (s : SheetBytes bytes) where
   opening-length = within bytes (openingSize bytes) 2 (2 + openingSize bytes + closingSize bytes) (omega (arith, s .whole)) (omega (arith, s .whole))
 
   pub closing-length : length (closingText bytes) ≤ 4 + 6 * closingSize bytes
-  closing-length = within bytes (closingSize bytes) (2 + openingSize bytes) (2 + openingSize bytes + closingSize bytes + openingSize bytes) (omega (arith, s .whole)) (omega (arith, s .whole))
+  closing-length =
+      within bytes (closingSize bytes) (2 + openingSize bytes) (2 + openingSize bytes + closingSize bytes + openingSize bytes) (omega (arith, s .whole)) (omega (arith, s .whole))
 
   pub line-length : (i n : ℕ) (cs : List BusChoice) → i < 10000 → 0 < n → n ≤ largest → AllNamed n cs → length (sheetLine i n cs bytes) ≤ room
   unfolding ascii

@@ -60,7 +60,8 @@ number-read n c v e = go (partNamed n c) (wordNamed v) e
             absurd (omega arith)
 
 -- the i-th report of two stretches whose reports are not refused
-all-read : (n : ℕ) (cs ws : List ℕ) → reportsRefusal n cs ws ≡ 0 → (i : ℕ) → i < length cs → i < length ws → (r : Report) × (reportAnswer n (getD cs i 0) (getD ws i 0) ≡ Read r)
+all-read : (n : ℕ) (cs ws : List ℕ) → reportsRefusal n cs ws ≡ 0 → (i : ℕ) → i < length cs → i < length ws
+    → (r : Report) × (reportAnswer n (getD cs i 0) (getD ws i 0) ≡ Read r)
 unfolding reportsRefusal
 all-read n [] ws e i p q = absurd (omega arith)
 all-read n (c ∷ cs) [] e i p q = absurd (omega arith)
@@ -110,7 +111,8 @@ file-passed f e =
     first = firstMet ((1, ltb (length f) 3) ∷ (2, sizeOutside (fileSize f)) ∷ (3, ltb 4096 (fileCount f)) ∷ (4, not (eqb (length f) (3 + 2 * fileCount f))) ∷ [])
 
 -- the printed run of a served file: its header, line 0, and a line for each of its reports
-pub run-lines : (f : List ℕ) → fileRefusal f ≡ 0 → printedRun f ≡ header (fileSize f) (fileCount f) ++ (startLine (fileSize f) ++ linesFrom (startRing (fileSize f)) (fileCodes f) (fileWords f) 0 (fileCount f))
+pub run-lines : (f : List ℕ) → fileRefusal f ≡ 0
+    → printedRun f ≡ header (fileSize f) (fileCount f) ++ (startLine (fileSize f) ++ linesFrom (startRing (fileSize f)) (fileCodes f) (fileWords f) 0 (fileCount f))
 unfolding printedRun servedText withPlan blankRing
 run-lines f e =
     let t = file-passed f e in

@@ -58,7 +58,8 @@ module _ {n : ℕ} {H : PartHealth} {w : Path} (h : Ends n w) where
 
   pub usable-of : Usable n H w → usable n H w ≡ true
   unfolding usable
-  usable-of u = and-intro (fit (H (generator (w .source)))) _ (u .runs) (all-of (notOpen H) (pathBreakers n w) (λ p m. not-of (stuckOpen (H p)) (go p (on-path n w p (breakers-on n w p m)))))
+  usable-of u =
+      and-intro (fit (H (generator (w .source)))) _ (u .runs) (all-of (notOpen H) (pathBreakers n w) (λ p m. not-of (stuckOpen (H p)) (go p (on-path n w p (breakers-on n w p m)))))
     where
       go : (p : Part) → OnPath n w p → stuckOpen (H p) ≡ false
       go p at-generator = rw (eqb-true (H (generator (w .source))) 0 (u .runs))
@@ -86,10 +87,13 @@ module _ (n : ℕ) (H : PartHealth) (ws : List Path) (ends : (w : Path) → w �
 
   pub isolated-of : Isolated n H ws → isolated n H ws ≡ true
   unfolding isolated apart
-  isolated-of f = all-of (λ x. allOf (apart x) ws) ws (λ v mv. all-of (apart v) ws (λ w mw. go v w mv mw (dec (connected n (countedClosed n H ws) (v .source) (w .source)))))
+  isolated-of f =
+      all-of (λ x. allOf (apart x) ws) ws (λ v mv. all-of (apart v) ws (λ w mw. go v w mv mw (dec (connected n (countedClosed n H ws) (v .source) (w .source)))))
     where
-      go : (v w : Path) → v ∈ ws → w ∈ ws → (connected n (countedClosed n H ws) (v .source) (w .source) ≡ true) ⊎ (connected n (countedClosed n H ws) (v .source) (w .source) ≡ false) → apart v w ≡ true
-      go v w mv mw (inl p) = or-left (eqb (v .source) (w .source)) _ (eq-eqb (v .source) (w .source) (f v w mv mw (connected-leads (ends v mv .source) (ends w mw .source) p)))
+      go : (v w : Path) → v ∈ ws → w ∈ ws
+          → (connected n (countedClosed n H ws) (v .source) (w .source) ≡ true) ⊎ (connected n (countedClosed n H ws) (v .source) (w .source) ≡ false) → apart v w ≡ true
+      go v w mv mw (inl p) =
+          or-left (eqb (v .source) (w .source)) _ (eq-eqb (v .source) (w .source) (f v w mv mw (connected-leads (ends v mv .source) (ends w mw .source) p)))
       go v w mv mw (inr p) = or-right (eqb (v .source) (w .source)) _ (not-of (connected n (countedClosed n H ws) (v .source) (w .source)) p)
 
 -- ---- what counts as closed
@@ -102,16 +106,19 @@ pub counted-in : (n : ℕ) (H : PartHealth) {ws : List Path} {w : Path} (i : ℕ
 unfolding countedClosed
 counted-in n H {w = w} i m u = or-right (stuckClosed (H (busBreaker i))) _ (on-in n (busBreaker i) m (line-on n w u))
 
-pub counted-at : (n : ℕ) (H : PartHealth) (ws : List Path) (i : ℕ) → countedClosed n H ws i ≡ true → (stuckClosed (H (busBreaker i)) ≡ true) ⊎ ((w : Path) × (w ∈ ws) × (i ∈ pathBusBreakers n w))
+pub counted-at : (n : ℕ) (H : PartHealth) (ws : List Path) (i : ℕ) → countedClosed n H ws i ≡ true
+    → (stuckClosed (H (busBreaker i)) ≡ true) ⊎ ((w : Path) × (w ∈ ws) × (i ∈ pathBusBreakers n w))
 unfolding countedClosed
 counted-at n H ws i e = go (or-cases (stuckClosed (H (busBreaker i))) _ e)
   where
-    go : (stuckClosed (H (busBreaker i)) ≡ true) ⊎ (onPaths n ws (busBreaker i) ≡ true) → (stuckClosed (H (busBreaker i)) ≡ true) ⊎ ((w : Path) × (w ∈ ws) × (i ∈ pathBusBreakers n w))
+    go : (stuckClosed (H (busBreaker i)) ≡ true) ⊎ (onPaths n ws (busBreaker i) ≡ true)
+        → (stuckClosed (H (busBreaker i)) ≡ true) ⊎ ((w : Path) × (w ∈ ws) × (i ∈ pathBusBreakers n w))
     go (inl p) = inl p
     go (inr p) = let t = on-at n ws (busBreaker i) p in inr (t .0, t .1, bus-breaker-on n (t .0) i (t .2))
 
 -- one path more
-pub counted-cons : (n : ℕ) (H : PartHealth) (ws : List Path) (w : Path) (i : ℕ) → countedClosed n H (w ∷ ws) i ≡ true → (countedClosed n H ws i ≡ true) ⊎ (i ∈ pathBusBreakers n w)
+pub counted-cons : (n : ℕ) (H : PartHealth) (ws : List Path) (w : Path) (i : ℕ) → countedClosed n H (w ∷ ws) i ≡ true
+    → (countedClosed n H ws i ≡ true) ⊎ (i ∈ pathBusBreakers n w)
 counted-cons n H ws w i e = go (counted-at n H (w ∷ ws) i e)
   where
     pick : (v : Path) → i ∈ pathBusBreakers n v → (v ≡ w) ⊎ (v ∈ ws) → (countedClosed n H ws i ≡ true) ⊎ (i ∈ pathBusBreakers n w)
@@ -138,12 +145,14 @@ counted-usable {n} {H} {ws} s i e = go (counted-at n H ws i e)
     go (inr t) = let u = path-at i (s .ends (t .0) (t .1)) (t .2) in s .usables (t .0) (t .1) .line i (u .0) (u .1)
 
 -- a permitted path, as propositions
-pub permitted-at : {n : ℕ} {H : PartHealth} {ws : List Path} {w : Path} → ((v : Path) → v ∈ w ∷ ws → Ends n v) → permitted n H ws w ≡ true → Usable n H w × Isolated n H (w ∷ ws)
+pub permitted-at : {n : ℕ} {H : PartHealth} {ws : List Path} {w : Path} → ((v : Path) → v ∈ w ∷ ws → Ends n v) → permitted n H ws w ≡ true
+    → Usable n H w × Isolated n H (w ∷ ws)
 unfolding permitted
 permitted-at {n} {H} {ws} {w} ends e =
     (usable-at (ends w (List·Memᴰ·head refl)) (and-left (usable n H w) _ e), isolated-at n H (w ∷ ws) ends (and-right (usable n H w) _ e))
 
-pub permitted-of : {n : ℕ} {H : PartHealth} {ws : List Path} {w : Path} → ((v : Path) → v ∈ w ∷ ws → Ends n v) → Usable n H w → Isolated n H (w ∷ ws) → permitted n H ws w ≡ true
+pub permitted-of : {n : ℕ} {H : PartHealth} {ws : List Path} {w : Path} → ((v : Path) → v ∈ w ∷ ws → Ends n v) → Usable n H w → Isolated n H (w ∷ ws)
+    → permitted n H ws w ≡ true
 unfolding permitted
 permitted-of {n} {H} {ws} {w} ends u i = and-intro (usable n H w) _ (usable-of (ends w (List·Memᴰ·head refl)) u) (isolated-of n H (w ∷ ws) ends i)
 

@@ -140,7 +140,8 @@ module _ (n : ℕ) (H : PartHealth) (ws : List Path) (safe : Safe n H ws) (k : �
         distinct : (v w : Path) → (v ≡ p) ⊎ (v ∈ ws) → (w ≡ p) ⊎ (w ∈ ws) → Leads n (countedClosed n H (p ∷ ws)) (v .source) (w .source) → v .source ≡ w .source
         distinct v w s t l = go (along g hg (countedClosed n H (p ∷ ws)) split l) s t
           where
-            go : Leads n (countedClosed n H ws) (v .source) (w .source) ⊎ (Near n (countedClosed n H ws) (Inside n d g) (v .source) × Near n (countedClosed n H ws) (Inside n d g) (w .source)) → (v ≡ p) ⊎ (v ∈ ws) → (w ≡ p) ⊎ (w ∈ ws) → v .source ≡ w .source
+            go : Leads n (countedClosed n H ws) (v .source) (w .source) ⊎ (Near n (countedClosed n H ws) (Inside n d g) (v .source) × Near n (countedClosed n H ws) (Inside n d g) (w .source))
+                → (v ≡ p) ⊎ (v ∈ ws) → (w ≡ p) ⊎ (w ∈ ws) → v .source ≡ w .source
             go x (inl a) (inl b) = ap (λ (q : Path). q .source) (a ∙ sym b)
             go (inl x) (inr a) (inr b) = safe .isolates v w a b x
             go (inr x) (inr a) b = off a (x .0)
@@ -149,7 +150,8 @@ module _ (n : ℕ) (H : PartHealth) (ws : List Path) (safe : Safe n H ws) (k : �
             go (inl x) (inl a) (inr b) = off b (g, (hg, omega arith), leads-sym (rw a at x))
 
     -- v is the first bus on the path from g that is connected to a chosen generator: a path from that generator is permitted
-    met : (g : ℕ) → g < n → Usable n H (pathTo k g r) → (v : ℕ) → v < n → d v ≤ d g → reached v ≡ true → ((x : ℕ) → x < n → reached x ≡ true → d v ≤ d x) → Permits n H ws k
+    met : (g : ℕ) → g < n → Usable n H (pathTo k g r) → (v : ℕ) → v < n → d v ≤ d g → reached v ≡ true → ((x : ℕ) → x < n → reached x ≡ true → d v ≤ d x)
+        → Permits n H ws k
     unfolding Inside Permits
     met g hg u v hv dv rv nearest = turn (leads-arcs hk to-k)
       where
@@ -190,13 +192,15 @@ module _ (n : ℕ) (H : PartHealth) (ws : List Path) (safe : Safe n H ws) (k : �
                 let e : t .0 ≡ v = arm .same (t .0) v (t .1 .0) hv (omega (arith, t .1 .1, nearest (t .0) (t .1 .0) (reached-of (t .0) mx (t .1 .0) (t .2)))) in
                 rw e at (t .2)
 
-            go : Leads n (countedClosed n H ws) (a .source) (b .source) ⊎ (Near n (countedClosed n H ws) (Inside n d v) (a .source) × Near n (countedClosed n H ws) (Inside n d v) (b .source)) → a .source ≡ b .source
+            go : Leads n (countedClosed n H ws) (a .source) (b .source) ⊎ (Near n (countedClosed n H ws) (Inside n d v) (a .source) × Near n (countedClosed n H ws) (Inside n d v) (b .source))
+                → a .source ≡ b .source
             go (inl t) = safe .isolates a b ma mb t
             go (inr t) = safe .isolates a b ma mb (leads-trans (reach a ma (t .0)) (leads-sym (reach b mb (t .1))))
 
         -- a path from h whose breakers are all in D
         from : (s : Bool) → (h ≡ k → s ≡ true) → ((i : ℕ) → i < n → Uses n (pathTo k h s) i → D i ≡ true) → Permits n H ws k
-        from s own f = (h, s, hh, own, permitted-of (ends-with h s hh) whole (λ a b ma mb l. isolates a b (was a (List·Memᴰ·cases-cons ma)) (was b (List·Memᴰ·cases-cons mb)) (leads-mono (λ i hi e. into-D i hi (counted-cons n H ws q i e)) l)))
+        from s own f =
+            (h, s, hh, own, permitted-of (ends-with h s hh) whole (λ a b ma mb l. isolates a b (was a (List·Memᴰ·cases-cons ma)) (was b (List·Memᴰ·cases-cons mb)) (leads-mono (λ i hi e. into-D i hi (counted-cons n H ws q i e)) l)))
           where
             q : Path
             q = pathTo k h s
@@ -205,7 +209,8 @@ module _ (n : ℕ) (H : PartHealth) (ws : List Path) (safe : Safe n H ws) (k : �
             was a (inl e) = (at .0, at .1, ap (λ (z : Path). z .source) e)
             was a (inr m) = (a, m, refl)
 
-            isolates : (a b : Path) → (x : Path) × (x ∈ ws) × (a .source ≡ x .source) → (y : Path) × (y ∈ ws) × (b .source ≡ y .source) → Leads n D (a .source) (b .source) → a .source ≡ b .source
+            isolates : (a b : Path) → (x : Path) × (x ∈ ws) × (a .source ≡ x .source) → (y : Path) × (y ∈ ws) × (b .source ≡ y .source)
+                → Leads n D (a .source) (b .source) → a .source ≡ b .source
             isolates a b x y l = x .2 ∙ alone (x .0) (y .0) (x .1) (y .1) (rw (x .2, y .2) at l) ∙ sym (y .2)
 
             into-D : (i : ℕ) → i < n → (countedClosed n H ws i ≡ true) ⊎ (i ∈ pathBusBreakers n q) → D i ≡ true
@@ -254,7 +259,8 @@ module _ (n : ℕ) (H : PartHealth) (ws : List Path) (safe : Safe n H ws) (k : �
   permits g false hg u = go (dec-eq g k)
     where
       go : (g ≡ k) ⊎ (g ≢ k) → Permits n H ws k
-      go (inl e) = found true (λ x. up n x k) (rising n k hk) g hg (λ z. refl) (record { runs = u .runs; breaker = u .breaker; line = λ i hi l. absurd (omega (arith, ap (up n g) e, up-refl n g hg)) })
+      go (inl e) =
+          found true (λ x. up n x k) (rising n k hk) g hg (λ z. refl) (record { runs = u .runs; breaker = u .breaker; line = λ i hi l. absurd (omega (arith, ap (up n g) e, up-refl n g hg)) })
       go (inr e) = found false (λ x. up n k x) (falling n k hk) g hg (λ z. absurd (e z)) u
 
   -- a usable path to k from a generator of the ring: some path is chosen

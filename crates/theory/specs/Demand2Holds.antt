@@ -90,7 +90,8 @@ sources-distinct : (n b : ℕ) → Distinct (sources n b)
 unfolding sources rest
 sources-distinct n zero = rising-distinct (rising-below n)
 sources-distinct n (suc zero) = two-first (others-distinct n) (λ g m. others-at n g m .0)
-sources-distinct n (suc (suc k)) = two-first (distinct-snoc (rest-distinct n (suc (suc k))) (λ m. rest-at n (suc (suc k)) (suc (suc k)) m .1 refl)) (λ g m. go g (List·Memᴰ·append-cases (rest n (suc (suc k))) m))
+sources-distinct n (suc (suc k)) =
+    two-first (distinct-snoc (rest-distinct n (suc (suc k))) (λ m. rest-at n (suc (suc k)) (suc (suc k)) m .1 refl)) (λ g m. go g (List·Memᴰ·append-cases (rest n (suc (suc k))) m))
   where
     go : (g : ℕ) → (g ∈ rest n (suc (suc k))) ⊎ (g ∈ suc (suc k) ∷ []) → 2 ≤ g
     go g (inl m) = rest-at n (suc (suc k)) g m .0
@@ -115,7 +116,8 @@ distinct-shorter {A} (d2.more {x = x} {xs = xs} g d) ys f = go (λ zs h. distinc
         behind (inl e) = absurd (g (Memᴰ·cast (sym e) m))
         behind (inr q) = Memᴰ·append-right front q
 
-    go : ((zs : List A) → ((y : A) → y ∈ xs → y ∈ zs) → length xs ≤ length zs) → (front : List A) × (back : List A) × (ys ≡ front ++ (x ∷ back)) → suc (length xs) ≤ length ys
+    go : ((zs : List A) → ((y : A) → y ∈ xs → y ∈ zs) → length xs ≤ length zs) → (front : List A) × (back : List A) × (ys ≡ front ++ (x ∷ back))
+        → suc (length xs) ≤ length ys
     go r t =
         let shorter = r (t .0 ++ t .1) (λ y m. other (t .0) (t .1) y m (List·Memᴰ·append-cases (t .0) (rw (t .2) at (f y (List·Memᴰ·tail m))))) in
         omega (arith, ap length (t .2), length-append (t .0) (x ∷ t .1), length-append (t .0) (t .1))
@@ -141,7 +143,8 @@ unfolding pathsFrom
 own-length n b g e = rw (eq-eqb g b e)
 
 -- two paths a source, but one from the bus's own
-flat-length : (n b : ℕ) {xs : List ℕ} → Distinct xs → (b ∈ xs → suc (length (flatMap (pathsFrom n b) xs)) ≡ 2 * length xs) × ((b ∈ xs → ⊥) → length (flatMap (pathsFrom n b) xs) ≡ 2 * length xs)
+flat-length : (n b : ℕ) {xs : List ℕ} → Distinct xs
+    → (b ∈ xs → suc (length (flatMap (pathsFrom n b) xs)) ≡ 2 * length xs) × ((b ∈ xs → ⊥) → length (flatMap (pathsFrom n b) xs) ≡ 2 * length xs)
 unfolding flatMap
 flat-length n b d2.empty = (λ m. absurd (List·Memᴰ·not-nil m), λ f. refl)
 flat-length n b (d2.more {x = x} {xs = xs} g d) = go (flat-length n b d) (dec-eq x b)
@@ -152,7 +155,8 @@ flat-length n b (d2.more {x = x} {xs = xs} g d) = go (flat-length n b d) (dec-eq
     go : (b ∈ xs → suc (length (flatMap (pathsFrom n b) xs)) ≡ 2 * length xs) × ((b ∈ xs → ⊥) → length (flatMap (pathsFrom n b) xs) ≡ 2 * length xs) → (x ≡ b) ⊎ (x ≢ b)
         → (b ∈ x ∷ xs → suc (length (pathsFrom n b x ++ flatMap (pathsFrom n b) xs)) ≡ 2 * suc (length xs)) × ((b ∈ x ∷ xs → ⊥) → length (pathsFrom n b x ++ flatMap (pathsFrom n b) xs) ≡ 2 * suc (length xs))
     go ih (inl e) = (λ m. omega (arith, joined, own-length n b x e, ih .1 (λ k. g (Memᴰ·cast e k))), λ f. absurd (f (List·Memᴰ·head (sym e))))
-    go ih (inr e) = (λ m. omega (arith, joined, from-length n b x e, ih .0 (later (List·Memᴰ·cases-cons m))), λ f. omega (arith, joined, from-length n b x e, ih .1 (λ k. f (List·Memᴰ·tail k))))
+    go ih (inr e) =
+        (λ m. omega (arith, joined, from-length n b x e, ih .0 (later (List·Memᴰ·cases-cons m))), λ f. omega (arith, joined, from-length n b x e, ih .1 (λ k. f (List·Memᴰ·tail k))))
       where
         later : (b ≡ x) ⊎ (b ∈ xs) → b ∈ xs
         later (inl z) = absurd (e (sym z))
@@ -197,7 +201,8 @@ unfolding first
 first-permitted n H ws [] = not-found (λ v m. absurd (List·Memᴰ·not-nil m))
 first-permitted n H ws (x ∷ xs) = go (first (permitted n H ws) xs) (first-permitted n H ws xs) (dec (permitted n H ws x))
   where
-    go : (o : Option Path) → FirstPermitted n H ws xs o → (permitted n H ws x ≡ true) ⊎ (permitted n H ws x ≡ false) → FirstPermitted n H ws (x ∷ xs) (cond (permitted n H ws x) (some x) o)
+    go : (o : Option Path) → FirstPermitted n H ws xs o → (permitted n H ws x ≡ true) ⊎ (permitted n H ws x ≡ false)
+        → FirstPermitted n H ws (x ∷ xs) (cond (permitted n H ws x) (some x) o)
     go o f (inl p) = rw p (found [] x xs refl p (λ v m. absurd (List·Memᴰ·not-nil m)))
     go o (found front w back e q r) (inr p) = rw p (found (x ∷ front) w back (ap (λ l. x ∷ l) e) q (all-cons (λ v. permitted n H ws v ≡ false) p r))
     go o (not-found r) (inr p) = rw p (not-found (all-cons (λ v. permitted n H ws v ≡ false) p r))

@@ -203,7 +203,8 @@ pub data Interrupted (c : Controller) (n : ℕ) (buffer : List ℕ) (calls : Cal
   in-start : {ph : Phases} {rest : List Operation} {P : PlantState} → isServed (c .start n buffer) ≡ true → decode n (c .start n buffer .buffer) ≡ some ph
       → Moment ph freshPlant rest P → Interrupted c n buffer calls P (excepted [] rest)
   between : {before : Calls} {W : World} → Begins before calls → Ended c n buffer before W → Interrupted c n buffer calls (W .plant) false
-  in-call : {before : Calls} {W : World} (call : Call) {ph : Phases} {rest : List Operation} {P : PlantState} → Begins (before then call) calls → Ended c n buffer before W
+  in-call : {before : Calls} {W : World} (call : Call) {ph : Phases} {rest : List Operation} {P : PlantState} → Begins (before then call) calls
+      → Ended c n buffer before W
       → isServed (replyTo c (W .ring) call) ≡ true → decode n (replyTo c (W .ring) call .buffer) ≡ some ph
       → Moment ph (afterWords (words call) (W .plant)) rest P → Interrupted c n buffer calls P (excepted (words call) rest)
 

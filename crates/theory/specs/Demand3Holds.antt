@@ -128,7 +128,8 @@ not-in-ring n p e r = go (or-cases (ltb (number p) 1) (ltb n (number p)) e)
     go (inr q) = omega (arith, ltb-true n (number p) q, r .1)
 
 -- refusals 6 and 7, by cases
-word-refusal : (p : Part) (w : Word) (x : ℕ) → cond (wordOfOtherKind p (wordNumber w)) 6 (cond (generatorFitAgain p (wordNumber w)) 7 x) ≡ cond (eqb (wordRefusal p w) 0) x (wordRefusal p w)
+word-refusal : (p : Part) (w : Word) (x : ℕ)
+    → cond (wordOfOtherKind p (wordNumber w)) 6 (cond (generatorFitAgain p (wordNumber w)) 7 x) ≡ cond (eqb (wordRefusal p w) 0) x (wordRefusal p w)
 unfolding wordOfOtherKind generatorFitAgain wordRefusal
 word-refusal (Generator k) Fit x = refl
 word-refusal (Generator k) StuckOff x = refl
@@ -174,7 +175,8 @@ judge n P r room = go (dec (notOfRing n (r .part))) (wordRefusal (r .part) (r .w
     size : ℕ
     size = length (sheet n (P .last) (commands n (afterWord r P .health)))
 
-    go : (notOfRing n (r .part) ≡ true) ⊎ (notOfRing n (r .part) ≡ false) → (k : ℕ) → wordRefusal (r .part) (r .word) ≡ k → (ltb room size ≡ true) ⊎ (ltb room size ≡ false)
+    go : (notOfRing n (r .part) ≡ true) ⊎ (notOfRing n (r .part) ≡ false) → (k : ℕ) → wordRefusal (r .part) (r .word) ≡ k
+        → (ltb room size ≡ true) ⊎ (ltb room size ≡ false)
         → Judged n P r room (cond (notOfRing n (r .part)) 5 (cond (eqb (wordRefusal (r .part) (r .word)) 0) (cond (ltb room size) 8 0) (wordRefusal (r .part) (r .word))))
     go (inl p) k e t = rw p (met (no-part (not-in-ring n (r .part) p)))
     go (inr p) (suc k) e t = rw (p, e, ne-eqb (suc k) 0 (λ z. omega arith)) (met (no-word (in-ring n (r .part) p) e))
@@ -243,7 +245,8 @@ module _ {n : ℕ} {W : World} (s : Steady n W) (r : Report) (inside : InRing n 
   unfolding reported
   next-kinds p i = go (dec (samePart p (r .part)))
     where
-      go : (samePart p (r .part) ≡ true) ⊎ (samePart p (r .part) ≡ false) → healthOfKind p (cond (samePart p (r .part)) (wordNumber (r .word)) (healthOf (W .ring .health) p)) ≡ true
+      go : (samePart p (r .part) ≡ true) ⊎ (samePart p (r .part) ≡ false)
+          → healthOfKind p (cond (samePart p (r .part)) (wordNumber (r .word)) (healthOf (W .ring .health) p)) ≡ true
       go (inl e) = rw (e, same-eq p (r .part) e) (word-of-kind (r .part) (r .word) word)
       go (inr e) = rw (e, s .health p i) (s .kinds p i)
 
@@ -358,7 +361,8 @@ word-none r P p e = go (samePart p (r .part))
     go true c = absurd (not-closed (r .word) e c)
     go false c = c
 
-words-none : (rs : List Report) (P : PlantState) (p : Part) → anyOf (λ r. isStuckClosed (r .word)) rs ≡ false → stuckClosed (afterWords rs P .health p) ≡ true → stuckClosed (P .health p) ≡ true
+words-none : (rs : List Report) (P : PlantState) (p : Part) → anyOf (λ r. isStuckClosed (r .word)) rs ≡ false → stuckClosed (afterWords rs P .health p) ≡ true
+    → stuckClosed (P .health p) ≡ true
 unfolding afterWords anyOf
 words-none [] P p e c = c
 words-none (r ∷ rs) P p e c =
@@ -374,7 +378,8 @@ unless : (rs : List Report) (rest : List Operation) → excepted rs rest ≡ fal
 unfolding excepted
 unless rs rest e = go (dec (anyOf (λ r. isStuckClosed (r .word)) rs)) (dec (isEmpty rest))
   where
-    go : (anyOf (λ r. isStuckClosed (r .word)) rs ≡ true) ⊎ (anyOf (λ r. isStuckClosed (r .word)) rs ≡ false) → (isEmpty rest ≡ true) ⊎ (isEmpty rest ≡ false) → Unless rs rest
+    go : (anyOf (λ r. isStuckClosed (r .word)) rs ≡ true) ⊎ (anyOf (λ r. isStuckClosed (r .word)) rs ≡ false) → (isEmpty rest ≡ true) ⊎ (isEmpty rest ≡ false)
+        → Unless rs rest
     go (inr p) q = no-word-3 p
     go (inl p) (inl q) = all-opened q
     go (inl p) (inr q) = contra (rw (p, q)) e
@@ -413,7 +418,8 @@ module _ (n : ℕ) (buffer : List ℕ) (big : smallest ≤ n) (small : n ≤ lar
   start-chosen : AsChosen n freshPlant (startReply n buffer)
   start-chosen = rw (start-served n buffer begun) (as-chosen small (start-ready n small) buffer)
 
-  step-chosen : {W : World} → Steady n W → (r : Report) (lending : List ℕ) → isServed (stepReply (W .ring) r lending) ≡ true → AsChosen n (afterWord r (W .plant)) (stepReply (W .ring) r lending)
+  step-chosen : {W : World} → Steady n W → (r : Report) (lending : List ℕ) → isServed (stepReply (W .ring) r lending) ≡ true
+      → AsChosen n (afterWord r (W .plant)) (stepReply (W .ring) r lending)
   step-chosen {W} s r lending e = rw (step-served (W .ring) r lending e) (as-chosen small (step-ready s r) lending)
 
   steady : {calls : Calls} {W : World} → Ended controller n buffer calls W → Steady n W
@@ -427,7 +433,8 @@ module _ (n : ℕ) (buffer : List ℕ) (big : smallest ≤ n) (small : n ≤ lar
       go : (W : World) × Ended controller n buffer calls W → (W : World) × Ended controller n buffer (calls then step r lending) W
       go t = by (dec (isServed (stepReply (t .0 .ring) r lending)))
         where
-          by : (isServed (stepReply (t .0 .ring) r lending) ≡ true) ⊎ (isServed (stepReply (t .0 .ring) r lending) ≡ false) → (W : World) × Ended controller n buffer (calls then step r lending) W
+          by : (isServed (stepReply (t .0 .ring) r lending) ≡ true) ⊎ (isServed (stepReply (t .0 .ring) r lending) ≡ false)
+              → (W : World) × Ended controller n buffer (calls then step r lending) W
           by (inl e) = (_, served (step r lending) (t .1) e (step-chosen (steady (t .1)) r lending e .decodes) (performed (Permᴰ·refl _) (Permᴰ·refl _)))
           by (inr e) = (_, refused (step r lending) (t .1) e)
 
@@ -452,7 +459,8 @@ module _ (n : ℕ) (buffer : List ℕ) (big : smallest ≤ n) (small : n ≤ lar
     answered = λ r lending i h. answered big small (steady h) r lending;
   }
     where
-      pick : {before : Calls} {W : World} (call : Call) → Ended controller n buffer before W → isServed (replyTo controller (W .ring) call) ≡ true → AsChosen n (afterWords (words call) (W .plant)) (replyTo controller (W .ring) call)
+      pick : {before : Calls} {W : World} (call : Call) → Ended controller n buffer before W → isServed (replyTo controller (W .ring) call) ≡ true
+          → AsChosen n (afterWords (words call) (W .plant)) (replyTo controller (W .ring) call)
       pick (step r lending) h e = step-chosen (steady h) r lending e
 
 pub demand3 : Demand3 controller

@@ -145,7 +145,8 @@ single-less l b hb s g h hg hh fg fh = s g h hg hh (feeds-less l b g hg hb fg) (
 path-leads : {n : ℕ} {w : Path} (D : ℕ → Bool) → Ends n w → ((i : ℕ) → i < n → Uses n w i → D i ≡ true) → Leads n D (w .source) (w .bus)
 path-leads {n} {w} D h f = go (w .rising) f
   where
-    go : (r : Bool) → ((i : ℕ) → i < n → up n (cond r (w .source) (w .bus)) i < up n (cond r (w .source) (w .bus)) (cond r (w .bus) (w .source)) → D i ≡ true) → Leads n D (w .source) (w .bus)
+    go : (r : Bool) → ((i : ℕ) → i < n → up n (cond r (w .source) (w .bus)) i < up n (cond r (w .source) (w .bus)) (cond r (w .bus) (w .source)) → D i ≡ true)
+        → Leads n D (w .source) (w .bus)
     go true f = arc-leads n D (w .source) (w .bus) (h .source) (h .bus) f
     go false f = leads-sym (arc-leads n D (w .bus) (w .source) (h .bus) (h .source) f)
 
@@ -181,7 +182,8 @@ module _ (n : ℕ) (H : PartHealth) where
   unfolding countedClosed commands
   closed-counted i h e = go (closed-case (H (busBreaker i)) (commands n H (busBreaker i)) e)
     where
-      go : (stuckClosed (H (busBreaker i)) ≡ true) ⊎ ((stuckOpen (H (busBreaker i)) ≡ false) × (onPaths n all (busBreaker i) ≡ true)) → stuckClosed (H (busBreaker i)) || onPaths n all (busBreaker i) ≡ true
+      go : (stuckClosed (H (busBreaker i)) ≡ true) ⊎ ((stuckOpen (H (busBreaker i)) ≡ false) × (onPaths n all (busBreaker i) ≡ true))
+          → stuckClosed (H (busBreaker i)) || onPaths n all (busBreaker i) ≡ true
       go (inl p) = or-left (stuckClosed (H (busBreaker i))) _ p
       go (inr p) = or-right (stuckClosed (H (busBreaker i))) _ (p .1)
 
@@ -216,7 +218,8 @@ module _ (n : ℕ) (H : PartHealth) where
       (record {
         runs = u .runs;
         on = commanded-in (generator (w .source)) m (source-on n w);
-        breaker = closed-by (H (generatorBreaker (w .source))) (commands n H (generatorBreaker (w .source))) (u .breaker) (commanded-in (generatorBreaker (w .source)) m (breaker-on n w));
+        breaker =
+            closed-by (H (generatorBreaker (w .source))) (commands n H (generatorBreaker (w .source))) (u .breaker) (commanded-in (generatorBreaker (w .source)) m (breaker-on n w));
         line = leads-mono counted-closed r;
       })
 
@@ -299,5 +302,6 @@ usable-reaches {n} {H} {b} {g} r hg hb u = record {
   inside = hg;
   runs = u .runs;
   breaker = u .breaker;
-  line = path-leads {w = pathTo b g r} (λ i. not (stuckOpen (H (busBreaker i)))) (record { source = hg; bus = hb }) (λ i h l. not-of (stuckOpen (H (busBreaker i))) (u .line i h l));
+  line =
+      path-leads {w = pathTo b g r} (λ i. not (stuckOpen (H (busBreaker i)))) (record { source = hg; bus = hb }) (λ i h l. not-of (stuckOpen (H (busBreaker i))) (u .line i h l));
 }

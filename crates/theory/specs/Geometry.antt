@@ -131,7 +131,8 @@ up-next-right n a b ha hb ne = go (dec-eq b (next n b)) (up-triangle n a b (next
     far : up n a (next n b) ≢ 0
     far e = ne (sym (up-zero n a (next n b) ha hn e))
 
-    go : (b ≡ next n b) ⊎ (b ≢ next n b) → (up n a b + up n b (next n b) ≡ up n a (next n b)) ⊎ (up n a b + up n b (next n b) ≡ up n a (next n b) + n) → up n a (next n b) ≡ suc (up n a b)
+    go : (b ≡ next n b) ⊎ (b ≢ next n b) → (up n a b + up n b (next n b) ≡ up n a (next n b)) ⊎ (up n a b + up n b (next n b) ≡ up n a (next n b) + n)
+        → up n a (next n b) ≡ suc (up n a b)
     go (inl p) t = absurd (next-other n b a hb ha (λ z. ne (sym p ∙ z)) p)
     go (inr p) (inl t) = omega (arith, up-one n b hb p)
     go (inr p) (inr t) = absurd (far (omega (arith, up-one n b hb p, up-lt n a b ha hb)))

@@ -65,7 +65,8 @@ module _ (n : ℕ) (H K : PartHealth) (same : Agree n H K) where
   unfolding choices
   choices-ext = map-ext _ _ (below largest) (λ b m. go b (ltb b n) refl)
     where
-      go : (b : ℕ) (t : Bool) → ltb b n ≡ t → _≡_ {A = BusChoice} (record { choice = cond (ltb b n) (choiceOf n (plan n H b)) Dark }) (record { choice = cond (ltb b n) (choiceOf n (plan n K b)) Dark })
+      go : (b : ℕ) (t : Bool) → ltb b n ≡ t
+          → _≡_ {A = BusChoice} (record { choice = cond (ltb b n) (choiceOf n (plan n H b)) Dark }) (record { choice = cond (ltb b n) (choiceOf n (plan n K b)) Dark })
       go b true e = rw (plan-ext b (ltb-true b n e))
       go b false e = rw e
 

@@ -141,7 +141,8 @@ module _ (xs ys : List Part) (rest : List ℕ) where
   take-codes = rw append-assoc (take-at (codes xs ys) (bytes xs ys ++ rest) (length xs + length ys) (codes-length xs ys))
 
   take-bytes : take (length xs + length ys) (drop (length xs + length ys) ((codes xs ys ++ bytes xs ys) ++ rest)) ≡ bytes xs ys
-  take-bytes = rw (append-assoc, drop-at (codes xs ys) (bytes xs ys ++ rest) (length xs + length ys) (codes-length xs ys)) (take-at (bytes xs ys) rest (length xs + length ys) (bytes-length xs ys))
+  take-bytes =
+      rw (append-assoc, drop-at (codes xs ys) (bytes xs ys ++ rest) (length xs + length ys) (codes-length xs ys)) (take-at (bytes xs ys) rest (length xs + length ys) (bytes-length xs ys))
 
   behind-length : length ((codes xs ys ++ bytes xs ys) ++ rest) ≡ (length xs + length ys) + (length xs + length ys) + length rest
   behind-length = simp (length-append) (omega (arith, (codes-length xs ys), (bytes-length xs ys)))
@@ -150,7 +151,8 @@ decode-behind : (n a b : ℕ) (l : List ℕ) → a + b + (a + b) ≤ length l �
 unfolding decode
 decode-behind n a b l h = let e : 2 + (a + b) ≡ suc (suc (a + b)) = omega arith in rw (le-leb (2 + 2 * (a + b)) (suc (suc (length l))) (omega arith), e)
 
-phases-split : (xs ys : List Part) → phasesAt (length xs) (some (map (operation false) xs ++ map (operation true) ys)) ≡ some (record { first = map (operation false) xs; second = map (operation true) ys })
+phases-split : (xs ys : List Part)
+    → phasesAt (length xs) (some (map (operation false) xs ++ map (operation true) ys)) ≡ some (record { first = map (operation false) xs; second = map (operation true) ys })
 unfolding phasesAt
 phases-split xs ys =
     let e : length (map (operation false) xs) ≡ length xs = length-map xs (operation false) in

@@ -104,7 +104,8 @@ room-length = length-replicate {A = ℕ} 122 0
 served-step : {n : ℕ} {W : World} → smallest ≤ n → n ≤ largest → Steady n W → (r : Report) → InRing n (r .part) → wordRefusal (r .part) (r .word) ≡ 0
     → stepReply (W .ring) r room .answer .ring ≡ withPlan (W .ring) (nextHealth (W .ring) r)
 unfolding servedReply
-served-step {n} {W} big small s r i w = ap (λ (x : Reply). x .answer .ring) (step-served (W .ring) r room (rw (step-outcome (W .ring) r room) (zero-served (refusal (W .ring) r room) (go (judged big small s r (length room))))))
+served-step {n} {W} big small s r i w =
+    ap (λ (x : Reply). x .answer .ring) (step-served (W .ring) r room (rw (step-outcome (W .ring) r room) (zero-served (refusal (W .ring) r room) (go (judged big small s r (length room))))))
   where
     go : {k : ℕ} → Judged n (W .plant) r (length room) k → k ≡ 0
     go (met (no-part f)) = absurd (f i)
@@ -171,16 +172,19 @@ module _ (n : ℕ) (big : smallest ≤ n) (small : n ≤ largest) (H : PartHealt
       go q (inr t) = rw t
 
   -- one report more
-  add : (p : Part) (ps : List Part) (w : Word) → wordNumber w ≡ H p → withPlan (ringFor n (partial ps)) (nextHealth (ringFor n (partial ps)) (record { part = p; word = w })) ≡ ringFor n (partial (p ∷ ps))
+  add : (p : Part) (ps : List Part) (w : Word) → wordNumber w ≡ H p
+      → withPlan (ringFor n (partial ps)) (nextHealth (ringFor n (partial ps)) (record { part = p; word = w })) ≡ ringFor n (partial (p ∷ ps))
   unfolding withPlan ringFor reported partial anyOf
-  add p ps w e = ring-ext n (reported (healthOf (healthPlaces (partial ps))) (record { part = p; word = w })) (partial (p ∷ ps)) small (λ q i. go q i (dec (samePart q p)))
+  add p ps w e =
+      ring-ext n (reported (healthOf (healthPlaces (partial ps))) (record { part = p; word = w })) (partial (p ∷ ps)) small (λ q i. go q i (dec (samePart q p)))
     where
       go : (q : Part) → InRing largest q → (samePart q p ≡ true) ⊎ (samePart q p ≡ false)
           → cond (samePart q p) (wordNumber w) (healthOf (healthPlaces (partial ps)) q) ≡ cond (samePart q p || anyOf (samePart q) ps) (H q) 0
       go q i (inl t) = rw t (e ∙ ap H (sym (same-eq q p t)))
       go q i (inr t) = rw t (health-places (partial ps) q i)
 
-  step-made : (p : Part) (ps : List Part) → InRing n p → (w : Word) → wordNumber w ≡ H p → wordRefusal p w ≡ 0 → Made (ringFor n (partial ps)) → Made (ringFor n (partial (p ∷ ps)))
+  step-made : (p : Part) (ps : List Part) → InRing n p → (w : Word) → wordNumber w ≡ H p → wordRefusal p w ≡ 0 → Made (ringFor n (partial ps))
+      → Made (ringFor n (partial (p ∷ ps)))
   unfolding Stands ringFor
   step-made p ps i w e f m = go (made-stands m)
     where
@@ -291,13 +295,15 @@ module _ (ring : Ring) (arrays : Arrays ring) (good : badRecord ring ≡ false) 
   unfolding partial
   same-health p i = go (dec-lt (ring .n) (number p)) (dec (anyOf (samePart p) (parts (ring .n))))
     where
-      go : ((ring .n) < number p) ⊎ (number p ≤ (ring .n)) → (anyOf (samePart p) (parts (ring .n)) ≡ true) ⊎ (anyOf (samePart p) (parts (ring .n)) ≡ false) → (healthOf (ring .health)) p ≡ cond (anyOf (samePart p) (parts (ring .n))) ((healthOf (ring .health)) p) 0
+      go : ((ring .n) < number p) ⊎ (number p ≤ (ring .n)) → (anyOf (samePart p) (parts (ring .n)) ≡ true) ⊎ (anyOf (samePart p) (parts (ring .n)) ≡ false)
+          → (healthOf (ring .health)) p ≡ cond (anyOf (samePart p) (parts (ring .n))) ((healthOf (ring .health)) p) 0
       go l (inl a) = rw a
       go (inl l) (inr a) = rw a ((above-fit ring good) p i l)
       go (inr l) (inr a) = contra (any-in (samePart p) (parts-in (ring .n) p (i .0, l)) (same-refl p)) a
 
   same-commands : (p : Part) → InRing largest p → (commandsOf (ring .commands)) p ≡ commands (ring .n) K p
-  same-commands p i = (as-planned ring good) p i ∙ commands-ext (ring .n) (healthOf (ring .health)) K (λ q j. same-health q (j .0, omega (arith, j .1, (bounds ring good) .1))) p
+  same-commands p i =
+      (as-planned ring good) p i ∙ commands-ext (ring .n) (healthOf (ring .health)) K (λ q j. same-health q (j .0, omega (arith, j .1, (bounds ring good) .1))) p
 
   is-ring : ring ≡ ringFor (ring .n) K
   unfolding ringFor healthPlaces commandPlaces healthOf commandsOf
@@ -305,18 +311,24 @@ module _ (ring : Ring) (arrays : Arrays ring) (good : badRecord ring ≡ false) 
     n = (ring .n);
     health = record {
       generators = is-places (λ j. K (generator j)) (ring .health .generators) 0 (arrays .generators) (λ j l. same-health (generator j) (at-index largest j l)) i;
-      «generator_breakers» = is-places (λ j. K (generatorBreaker j)) (ring .health .«generator_breakers») 0 (arrays .generator-breakers) (λ j l. same-health (generatorBreaker j) (at-index largest j l)) i;
-      «bus_breakers» = is-places (λ j. K (busBreaker j)) (ring .health .«bus_breakers») 0 (arrays .bus-breakers) (λ j l. same-health (busBreaker j) (at-index largest j l)) i;
+      «generator_breakers» =
+          is-places (λ j. K (generatorBreaker j)) (ring .health .«generator_breakers») 0 (arrays .generator-breakers) (λ j l. same-health (generatorBreaker j) (at-index largest j l)) i;
+      «bus_breakers» =
+          is-places (λ j. K (busBreaker j)) (ring .health .«bus_breakers») 0 (arrays .bus-breakers) (λ j l. same-health (busBreaker j) (at-index largest j l)) i;
     };
     commands = record {
-      generators = is-places (λ j. commands (ring .n) K (generator j)) (ring .commands .generators) false (arrays .generator-commands) (λ j l. same-commands (generator j) (at-index largest j l)) i;
-      «generator_breakers» = is-places (λ j. commands (ring .n) K (generatorBreaker j)) (ring .commands .«generator_breakers») false (arrays .generator-breaker-commands) (λ j l. same-commands (generatorBreaker j) (at-index largest j l)) i;
-      «bus_breakers» = is-places (λ j. commands (ring .n) K (busBreaker j)) (ring .commands .«bus_breakers») false (arrays .bus-breaker-commands) (λ j l. same-commands (busBreaker j) (at-index largest j l)) i;
+      generators =
+          is-places (λ j. commands (ring .n) K (generator j)) (ring .commands .generators) false (arrays .generator-commands) (λ j l. same-commands (generator j) (at-index largest j l)) i;
+      «generator_breakers» =
+          is-places (λ j. commands (ring .n) K (generatorBreaker j)) (ring .commands .«generator_breakers») false (arrays .generator-breaker-commands) (λ j l. same-commands (generatorBreaker j) (at-index largest j l)) i;
+      «bus_breakers» =
+          is-places (λ j. commands (ring .n) K (busBreaker j)) (ring .commands .«bus_breakers») false (arrays .bus-breaker-commands) (λ j l. same-commands (busBreaker j) (at-index largest j l)) i;
     };
   }
 
   good-made : Made ring
-  good-made = rw is-ring (makes (ring .n) ((bounds ring good) .0) ((bounds ring good) .1) (healthOf (ring .health)) (of-kind ring good) (parts (ring .n)) (parts-at (ring .n)))
+  good-made =
+      rw is-ring (makes (ring .n) ((bounds ring good) .0) ((bounds ring good) .1) (healthOf (ring .health)) (of-kind ring good) (parts (ring .n)) (parts-at (ring .n)))
 
 -- "record not one that start and steps make"
 pub made-exactly : (ring : Ring) → Arrays ring → badRecord ring ≡ false ↔ Made ring

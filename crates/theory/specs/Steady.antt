@@ -87,7 +87,8 @@ module _ (n : ℕ) (P : PlantState) (N : PartCommands) where
       most = second-fewer (performAll xs P) ys (first-done xs dx) (some-of-perm true closes dy) p r
 
       least : N p ≡ true → performAll ys (performAll xs P) .last p ≡ true
-      least e = last (struck true ys (performAll xs P) p (λ o m. some-of-perm true closes dy o m .0)) (struck false xs P p (λ o m. some-of-perm false opens dx o m .0)) (dec (P .last p))
+      least e =
+          last (struck true ys (performAll xs P) p (λ o m. some-of-perm true closes dy o m .0)) (struck false xs P p (λ o m. some-of-perm false opens dx o m .0)) (dec (P .last p))
         where
           last : Struck true ys (performAll xs P) p → Struck false xs P p → (P .last p ≡ true) ⊎ (P .last p ≡ false) → performAll ys (performAll xs P) .last p ≡ true
           last (hit m z) s o = z
@@ -95,7 +96,8 @@ module _ (n : ℕ) (P : PlantState) (N : PartCommands) where
           last (miss m z) (hit k y) (inl o) = contra e (opening-at n (P .last) N p (some-of-perm false opens dx (operation false p) k .1) .2)
           last (miss m z) (miss k y) (inl o) = z ∙ y ∙ o
 
-      go : (performAll ys (performAll xs P) .last p ≡ true) ⊎ (performAll ys (performAll xs P) .last p ≡ false) → (N p ≡ true) ⊎ (N p ≡ false) → performAll ys (performAll xs P) .last p ≡ N p
+      go : (performAll ys (performAll xs P) .last p ≡ true) ⊎ (performAll ys (performAll xs P) .last p ≡ false) → (N p ≡ true) ⊎ (N p ≡ false)
+          → performAll ys (performAll xs P) .last p ≡ N p
       go (inl s) q = s ∙ sym (most s)
       go (inr s) (inr q) = s ∙ sym q
       go (inr s) (inl q) = contra (least q) s

@@ -409,7 +409,8 @@ bus-sound {n} {b} {W} hb s e = go (or-cases (not (eqb (feedNumber (busFeed n (W 
         let ends : Ends n w = record { source = t .0; bus = rw (t .1) hb } in
         (w .source, usable-reaches (w .rising) (t .0) hb (rw (t .1) at (usable-at ends u)))
 
-    go : (not (eqb (feedNumber (busFeed n (W .plant .health) (W .plant .last) b)) (choiceSource (shownAt W b))) ≡ true) ⊎ (isDark (shownAt W b) && anyOf (usable n (W .plant .health)) (paths n b) ≡ true) → ⊥
+    go : (not (eqb (feedNumber (busFeed n (W .plant .health) (W .plant .last) b)) (choiceSource (shownAt W b))) ≡ true) ⊎ (isDark (shownAt W b) && anyOf (usable n (W .plant .health)) (paths n b) ≡ true)
+        → ⊥
     go (inl x) = not-unequal (feedNumber (busFeed n (W .plant .health) (W .plant .last) b)) (choiceSource (shownAt W b)) (fed (dec (isDark (shownAt W b)))) x
     go (inr x) =
         let t = any-at (usable n (W .plant .health)) (paths n b) (and-right (isDark (shownAt W b)) _ x) in
@@ -447,7 +448,8 @@ answer-sound {n} {P} {reply} a e = go (or-cases (anyOf wrong (below n)) _ e)
     sizes : sizesFail n P (some (a .phases)) ≡ true → ⊥
     sizes x = size (or-cases (not (eqb (length (a .phases .first)) (length (opening n (P .last) (commands n (P .health)))))) _ x)
       where
-        size : (not (eqb (length (a .phases .first)) (length (opening n (P .last) (commands n (P .health))))) ≡ true) ⊎ (not (eqb (length (a .phases .second)) (length (closing n (P .last) (commands n (P .health))))) ≡ true) → ⊥
+        size : (not (eqb (length (a .phases .first)) (length (opening n (P .last) (commands n (P .health))))) ≡ true) ⊎ (not (eqb (length (a .phases .second)) (length (closing n (P .last) (commands n (P .health))))) ≡ true)
+            → ⊥
         size (inl y) = not-unequal (length (a .phases .first)) (length (opening n (P .last) (commands n (P .health)))) (a .first-size) y
         size (inr y) = not-unequal (length (a .phases .second)) (length (closing n (P .last) (commands n (P .health)))) (a .second-size) y
 
@@ -478,9 +480,12 @@ module _ (c : Controller) (n : ℕ) (buffer : List ℕ) (small : n ≤ largest) 
   clash-sound : (calls : Calls) → Holds c n buffer calls → clashTest c n buffer calls ≡ true → ⊥
   unfolding clashTest betweenPhases clashFails performAll
   clash-sound nothing h e = contra e refl
-  clash-sound (calls then call) h e = let w = on-world (run c n buffer calls) _ e in last (w .0) (w .1) (and-left (isServed (replyTo c (w .0 .ring) call)) _ (w .2)) (and-right (isServed (replyTo c (w .0 .ring) call)) _ (w .2))
+  clash-sound (calls then call) h e =
+      let w = on-world (run c n buffer calls) _ e in
+      last (w .0) (w .1) (and-left (isServed (replyTo c (w .0 .ring) call)) _ (w .2)) (and-right (isServed (replyTo c (w .0 .ring) call)) _ (w .2))
     where
-      last : (W : World) → run c n buffer calls ≡ some W → isServed (replyTo c (W .ring) call) ≡ true → betweenPhases n (afterWords (words call) (W .plant)) (decode n (replyTo c (W .ring) call .buffer)) ≡ true → ⊥
+      last : (W : World) → run c n buffer calls ≡ some W → isServed (replyTo c (W .ring) call) ≡ true
+          → betweenPhases n (afterWords (words call) (W .plant)) (decode n (replyTo c (W .ring) call .buffer)) ≡ true → ⊥
       last W q s x = go (decode n (replyTo c (W .ring) call .buffer)) refl x
         where
           go : (o : Option Phases) → decode n (replyTo c (W .ring) call .buffer) ≡ o → betweenPhases n (afterWords (words call) (W .plant)) o ≡ true → ⊥
@@ -531,7 +536,8 @@ module _ (d : Design) (n : ℕ) (big : smallest ≤ n) (small : n ≤ largest) (
 
 -- ---- a failed test refutes demand 2
 
-first-front : {A : Type 0} (f : A → Bool) (front : List A) (w : A) (back : List A) → f w ≡ true → ((v : A) → v ∈ front → f v ≡ false) → first f (front ++ (w ∷ back)) ≡ some w
+first-front : {A : Type 0} (f : A → Bool) (front : List A) (w : A) (back : List A) → f w ≡ true → ((v : A) → v ∈ front → f v ≡ false)
+    → first f (front ++ (w ∷ back)) ≡ some w
 unfolding first
 first-front f [] w back e h = rw e
 first-front f (x ∷ front) w back e h = rw (h x (List·Memᴰ·head refl)) (first-front f front w back e (λ v m. h v (List·Memᴰ·tail m)))
@@ -558,7 +564,8 @@ module _ {n : ℕ} {P : PlantState} {reply : Reply} (small : n ≤ largest) (s :
   )
 
   -- lists without repeats that have the same members have the same length
-  same-length : (g : Operation → ℕ) (xs ys : List Operation) → RisingBy g xs → RisingBy g ys → ((o : Operation) → o ∈ xs → o ∈ ys) → ((o : Operation) → o ∈ ys → o ∈ xs) → length xs ≡ length ys
+  same-length : (g : Operation → ℕ) (xs ys : List Operation) → RisingBy g xs → RisingBy g ys → ((o : Operation) → o ∈ xs → o ∈ ys) → ((o : Operation) → o ∈ ys → o ∈ xs)
+      → length xs ≡ length ys
   same-length g xs ys rx ry f h = omega (arith, distinct-shorter (rising-distinct rx) ys f, distinct-shorter (rising-distinct ry) xs h)
 
   serves-agrees : Agrees n P reply
@@ -566,18 +573,21 @@ module _ {n : ℕ} {P : PlantState} {reply : Reply} (small : n ≤ largest) (s :
     names = λ b hb. s .named b hb ∙ rw (path-is b hb);
     phases = s .phases;
     decodes = s .decodes;
-    first-size = same-length (λ o. partCode (o .part)) (s .phases .first) (map (operation false) (opening n (P .last) (commands n (P .health)))) (s .opens-rising) (opens-rise n P small)
+    first-size =
+        same-length (λ o. partCode (o .part)) (s .phases .first) (map (operation false) (opening n (P .last) (commands n (P .health)))) (s .opens-rising) (opens-rise n P small)
         (λ o m. let t = s .opens o .0 m in opens-exactly n P o .1 (t .0, t .1, t .2, λ x. t .3 (needed-is (o .part) .1 x)))
         (λ o m. let t = opens-exactly n P o .0 m in s .opens o .1 (t .0, t .1, t .2, λ x. t .3 (needed-is (o .part) .0 x)))
         ∙ length-map (opening n (P .last) (commands n (P .health))) (operation false);
-    second-size = same-length (λ o. partCode (o .part)) (s .phases .second) (map (operation true) (closing n (P .last) (commands n (P .health)))) (s .closes-rising) (closes-rise n P small)
+    second-size =
+        same-length (λ o. partCode (o .part)) (s .phases .second) (map (operation true) (closing n (P .last) (commands n (P .health)))) (s .closes-rising) (closes-rise n P small)
         (λ o m. let t = s .closes o .0 m in closes-exactly n P o .1 (t .0, t .1, t .2, needed-is (o .part) .0 (t .3)))
         (λ o m. let t = closes-exactly n P o .0 m in s .closes o .1 (t .0, t .1, t .2, needed-is (o .part) .1 (t .3)))
         ∙ length-map (closing n (P .last) (commands n (P .health))) (operation true);
   }
 
 refutes2 : (d : Design) (n : ℕ) → smallest ≤ n → n ≤ largest → (calls : Calls) → answerTest (designController d) n room calls ≡ true → Demand2 (designController d) → ⊥
-refutes2 d n big small calls e demand = answer-refutes (designController d) n room small calls (serves-agrees small (demand .start-serves n room big small (design-starts d n room)))
+refutes2 d n big small calls e demand =
+    answer-refutes (designController d) n room small calls (serves-agrees small (demand .start-serves n room big small (design-starts d n room)))
     (λ before W call q ended s. serves-agrees small (demand .call-serves n room big small (design-starts d n room) call ended s)) e
 
 -- ---- none of the wrong controllers meets the demands

@@ -60,7 +60,8 @@ module _ (ring : Ring) (small : ring .n ≤ largest) (h : Health) (new : Command
   pub advance-refused : (k : ℕ) → o ≡ Refused k → (r : RingAnswer) → r ≡ refusedAnswer k ring → Gives r after (advanceReply checked ring (healthOf h) buffer)
   advance-refused k e r is = rw (reply-is, e) (is, left ∙ rw e)
 
-  pub advance-served : o ≡ Served → Sized h → (cs : List BusChoice) → cs ≡ choices (ring .n) (healthOf h) → Gives (servedAnswer ring h new cs) after (advanceReply checked ring (healthOf h) buffer)
+  pub advance-served : o ≡ Served → Sized h → (cs : List BusChoice) → cs ≡ choices (ring .n) (healthOf h)
+      → Gives (servedAnswer ring h new cs) after (advanceReply checked ring (healthOf h) buffer)
   unfolding servedReply withPlan outcomeOf
   advance-served e sized cs is = rw (reply-is, e) (rw (is, planned, ← health-held h sized), left ∙ rw (e, next-sheet))
 

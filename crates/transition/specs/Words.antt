@@ -37,7 +37,9 @@ module _ (l : List ℕ) (v : ℕ) (full : length l ≡ largest) where
   pub at-place : (k : ℕ) → 1 ≤ k → set l (k - 1) v ≡ places (withValue l k v)
   unfolding withValue
   at-place zero h = absurd (omega arith)
-  at-place (suc j) h = let e : suc j - 1 ≡ j = omega arith in rw e (is-places (withValue l (suc j) v) (set l j v) 0 (length-set l j v ∙ full) (λ i b. at i b (dec-eq i j)))
+  at-place (suc j) h =
+      let e : suc j - 1 ≡ j = omega arith in
+      rw e (is-places (withValue l (suc j) v) (set l j v) 0 (length-set l j v ∙ full) (λ i b. at i b (dec-eq i j)))
     where
       at : (i : ℕ) → i < largest → (i ≡ j) ⊎ (i ≢ j) → getD (set l j v) i 0 ≡ withValue l (suc j) v i
       at i b (inl e) = rw (e, eq-eqb (suc j) (suc j) refl) (getD-set-same l j v 0 (omega arith))
@@ -57,14 +59,16 @@ withArray h (BusBreaker k) l = record { generators = h .generators; «generator_
 
 -- the health after a report: its word's number is stored at its part
 module _ (h : Health) (sized : Sized h) (r : Report) where
-  pub with-word : (v : ℕ) → v ≡ wordNumber (r .word) → (p : Part) → r .part ≡ p → (l : List ℕ) → l ≡ places (withValue (arrayOf h p) (number p) v) → withArray h p l ≡ healthPlaces (reported (healthOf h) r)
+  pub with-word : (v : ℕ) → v ≡ wordNumber (r .word) → (p : Part) → r .part ≡ p → (l : List ℕ) → l ≡ places (withValue (arrayOf h p) (number p) v)
+      → withArray h p l ≡ healthPlaces (reported (healthOf h) r)
   unfolding withValue healthPlaces healthOf reported samePart
   with-word v e p f l q = rw (f, q, e) (go p)
     where
       kept : (a : List ℕ) → length a ≡ largest → places (λ i. getD a i 0) ≡ a
       kept a s = sym (places-of a 0 s)
 
-      go : (p : Part) → withArray h p (places (withValue (arrayOf h p) (number p) (wordNumber (r .word)))) ≡ healthPlaces (reported (healthOf h) (record { part = p; word = r .word }))
+      go : (p : Part)
+          → withArray h p (places (withValue (arrayOf h p) (number p) (wordNumber (r .word)))) ≡ healthPlaces (reported (healthOf h) (record { part = p; word = r .word }))
       go (Generator k) = rw (kept (h .«generator_breakers») (sized .generator-breakers), kept (h .«bus_breakers») (sized .bus-breakers))
       go (GeneratorBreaker k) = rw (kept (h .generators) (sized .generators), kept (h .«bus_breakers») (sized .bus-breakers))
       go (BusBreaker k) = rw (kept (h .generators) (sized .generators), kept (h .«generator_breakers») (sized .generator-breakers))

@@ -218,7 +218,8 @@ unfolding keep
 keep-apart f g apart [] = omega arith
 keep-apart f g apart (x ∷ xs) = go (keep-apart f g apart xs) (dec (f x)) (dec (g x))
   where
-    go : length (keep f xs) + length (keep g xs) ≤ length xs → (f x ≡ true) ⊎ (f x ≡ false) → (g x ≡ true) ⊎ (g x ≡ false) → length (keep f (x ∷ xs)) + length (keep g (x ∷ xs)) ≤ length (x ∷ xs)
+    go : length (keep f xs) + length (keep g xs) ≤ length xs → (f x ≡ true) ⊎ (f x ≡ false) → (g x ≡ true) ⊎ (g x ≡ false)
+        → length (keep f (x ∷ xs)) + length (keep g (x ∷ xs)) ≤ length (x ∷ xs)
     go r (inl p) q = rw (p, apart x p) (omega arith)
     go r (inr p) (inl q) = rw (p, q) (omega arith)
     go r (inr p) (inr q) = rw (p, q) (omega arith)
@@ -277,7 +278,8 @@ Rising xs = RisingBy (λ i. i) xs
 
 pub rising-append : {A : Type 0} {g : A → ℕ} {xs ys : List A} → RisingBy g xs → RisingBy g ys → ((x y : A) → x ∈ xs → y ∈ ys → g x < g y) → RisingBy g (xs ++ ys)
 rising-append empty s f = s
-rising-append {A} {g} {ys = ys} (more {x = x} {xs = xs} l r) s f = more (λ y m. go y (List·Memᴰ·append-cases xs m)) (rising-append r s (λ z y m k. f z y (List·Memᴰ·tail m) k))
+rising-append {A} {g} {ys = ys} (more {x = x} {xs = xs} l r) s f =
+    more (λ y m. go y (List·Memᴰ·append-cases xs m)) (rising-append r s (λ z y m k. f z y (List·Memᴰ·tail m) k))
   where
     go : (y : A) → (y ∈ xs) ⊎ (y ∈ ys) → g x < g y
     go y (inl m) = l y m

@@ -79,7 +79,8 @@ parts-at n p m = go (List·Memᴰ·append-cases (map generator (below n)) m)
     go (inr x) = breakers (List·Memᴰ·append-cases (map generatorBreaker (below n)) x)
 
 -- what holds of every part of a ring of i, and of the three parts at place i, holds of every part of a ring of i + 1
-pub ring-more : (P : Part → Type 0) (i : ℕ) → ((p : Part) → InRing i p → P p) → P (generator i) → P (generatorBreaker i) → P (busBreaker i) → (p : Part) → InRing (i + 1) p → P p
+pub ring-more : (P : Part → Type 0) (i : ℕ) → ((p : Part) → InRing i p → P p) → P (generator i) → P (generatorBreaker i) → P (busBreaker i) → (p : Part)
+    → InRing (i + 1) p → P p
 ring-more P i h a b c = go
   where
     kind : (part : ℕ → Part) → P (part (suc i)) → (k : ℕ) → (k ≤ i → P (part k)) → k ≤ i + 1 → (k ≡ suc i) ⊎ (k ≢ suc i) → P (part k)
@@ -134,7 +135,8 @@ parts-rise n h =
     each : (kind : ℕ → Part) → ((i j : ℕ) → i < j → partCode (kind (suc i)) < partCode (kind (suc j))) → RisingBy partCode (map (λ i. kind (suc i)) (below n))
     each kind f = rising-map partCode (λ i. kind (suc i)) (rising-mono f (rising-below n))
 
-    apart : (a b : ℕ → Part) (x y : Part) → x ∈ map (λ i. a (suc i)) (below n) → y ∈ map (λ i. b (suc i)) (below n) → ((i j : ℕ) → i < largest → partCode (a (suc i)) < partCode (b (suc j))) → partCode x < partCode y
+    apart : (a b : ℕ → Part) (x y : Part) → x ∈ map (λ i. a (suc i)) (below n) → y ∈ map (λ i. b (suc i)) (below n)
+        → ((i j : ℕ) → i < largest → partCode (a (suc i)) < partCode (b (suc j))) → partCode x < partCode y
     apart a b x y m k f =
         let s = map-at (λ i. a (suc i)) (below n) m in
         let t = map-at (λ i. b (suc i)) (below n) k in

@@ -10,7 +10,8 @@ use Rattle.planner.specs.Walk.{clear, clear-open, clear-met, clear-step,
 use Rattle.planner.specs.Search.{at}
 
 abbrev Inv-loop : tie.InvT-loop
-Inv-loop n breakers owners number from steps k₀ left₀ k left = (k < n) × (clear n (at breakers) (at owners) number from steps ≡ clear n (at breakers) (at owners) number k left)
+Inv-loop n breakers owners number from steps k₀ left₀ k left =
+    (k < n) × (clear n (at breakers) (at owners) number from steps ≡ clear n (at breakers) (at owners) number k left)
 
 abbrev μ-loop : tie.MeasureT-loop
 μ-loop n breakers owners number from steps k₀ left₀ k left = left

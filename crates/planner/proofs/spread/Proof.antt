@@ -22,7 +22,10 @@ abbrev μ-loop : tie.MeasureT-loop
 
 module _ (c : tie.After-breaker-beside Inv-loop μ-loop) where
   inside : c .breaker-beside .result < 20
-  inside = let q = c .before .before in let l = breaker-lt (q .before .args .n) (q .before .args .rising) (q .loop .k) (q .loop .inv .0) in omega (arith, c .breaker-beside .ensures)
+  inside =
+      let q = c .before .before in
+      let l = breaker-lt (q .before .args .n) (q .before .args .rising) (q .loop .k) (q .loop .inv .0) in
+      omega (arith, c .breaker-beside .ensures)
 
 returns : tie.Need-returns Inv-loop μ-loop
 returns c =

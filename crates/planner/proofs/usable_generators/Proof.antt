@@ -13,7 +13,8 @@ use Rattle.model.specs.Laws.Parts.{filledTo, filled-none, filled-more, filled-a
 use Rattle.planner.specs.Owner.{mayFeed}
 
 abbrev Inv-loop : tie.InvT-loop
-Inv-loop generators generator-breakers usable₀ g₀ usable g = (usable ≡ filledTo false (λ i. fit (getD generators i 0) && not (stuckOpen (getD generator-breakers i 0))) g) × (g ≤ 20)
+Inv-loop generators generator-breakers usable₀ g₀ usable g =
+    (usable ≡ filledTo false (λ i. fit (getD generators i 0) && not (stuckOpen (getD generator-breakers i 0))) g) × (g ≤ 20)
 
 abbrev μ-loop : tie.MeasureT-loop
 μ-loop generators generator-breakers usable₀ g₀ usable g = 20 - g

@@ -31,7 +31,8 @@ counted d =
     (ap length (sheet-layout (a .n) (a .old) (a .new)) ∙ layout-length _ _ ∙ omega (arith, d .phases .ensures), sheet-fits (a .n) (commandsOf (a .old)) (commandsOf (a .new)) (start d .pre))
 
 -- the codes that the arrays hold are the phases'
-made : (d : tie.After-phases) → layout (take (d .phases .result .opening) (d .phases .last .1 .1 .1 .0)) (take (d .phases .result .closing) (d .phases .last .1 .1 .1 .1 .0)) ≡ bytes d
+made : (d : tie.After-phases)
+    → layout (take (d .phases .result .opening) (d .phases .last .1 .1 .1 .0)) (take (d .phases .result .closing) (d .phases .last .1 .1 .1 .1 .0)) ≡ bytes d
 made d =
     let a = start d .args in
     let o : length (openingCodes (a .n) (a .old) (a .new)) ≤ 60 = omega (arith, counted d, d .phases .ensures) in
@@ -39,7 +40,8 @@ made d =
     rw (appended-front (d .phases .ensures .0) o, appended-front (d .phases .ensures .1) k) (sym (sheet-layout (a .n) (a .old) (a .new)))
 
 -- the checks before it and the room, in this order
-outcome : (d : tie.After-first-of) → d .first-of .result ≡ writeOutcome (start (d .before .before) .args .checked) (bytes (d .before .before)) (now (start (d .before .before) .args .buffer))
+outcome : (d : tie.After-first-of)
+    → d .first-of .result ≡ writeOutcome (start (d .before .before) .args .checked) (bytes (d .before .before)) (now (start (d .before .before) .args .buffer))
 unfolding writeOutcome
 outcome d = d .first-of .ensures ∙ rw (d .before .check-room .ensures, counted (d .before .before) .0)
 

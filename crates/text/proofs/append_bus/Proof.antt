@@ -23,11 +23,15 @@ append-choice-requires-2 c κs =
 
 returns : tie.Need-returns
 unfolding ascii
-returns c = let e = c .before .before in appended-more (appended-two _ _ _ _) (appended-more (e .before .before .before .before .append-digit .ensures) (e .append-choice .ensures))
+returns c =
+    let e = c .before .before in
+    appended-more (appended-two _ _ _ _) (appended-more (e .before .before .before .before .append-digit .ensures) (e .append-choice .ensures))
 
 returns-2 : tie.Need-returns-2
 unfolding ascii
-returns-2 c = let e = c .before .before in appended-more (appended-two _ _ _ _) (appended-more (e .before .before .before .before .append-marked .ensures) (e .append-choice2 .ensures))
+returns-2 c =
+    let e = c .before .before in
+    appended-more (appended-two _ _ _ _) (appended-more (e .before .before .before .before .append-marked .ensures) (e .append-choice2 .ensures))
 
 pub append-bus-spec : {M : Type 1} → statement M
 append-bus-spec =

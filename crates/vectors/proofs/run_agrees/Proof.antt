@@ -13,16 +13,24 @@ part-served-agrees-end : tie.Need-part-served-agrees-end
 part-served-agrees-end c = let f = file-served _ _ _ (sym (c .before .before .before .check-file .ensures .0) ∙ c .before .n .given .1) in omega (arith, f .3)
 
 add-served-agrees-2 : tie.Need-add-served-agrees-2
-add-served-agrees-2 c = let f = file-served _ _ _ (sym (c .before .before .before .before .check-file .ensures .0) ∙ c .before .before .n .given .1) in search (needs, f .2)
+add-served-agrees-2 c =
+    let f = file-served _ _ _ (sym (c .before .before .before .before .check-file .ensures .0) ∙ c .before .before .n .given .1) in
+    search (needs, f .2)
 
 sub-served-agrees-2 : tie.Need-sub-served-agrees-2
-sub-served-agrees-2 c = let f = file-served _ _ _ (sym (c .before .before .before .before .check-file .ensures .0) ∙ c .before .before .n .given .1) in omega (arith, f .3)
+sub-served-agrees-2 c =
+    let f = file-served _ _ _ (sym (c .before .before .before .before .check-file .ensures .0) ∙ c .before .before .n .given .1) in
+    omega (arith, f .3)
 
 part-served-agrees-start-2 : tie.Need-part-served-agrees-start-2
-part-served-agrees-start-2 c = let f = file-served _ _ _ (sym (c .before .before .before .before .check-file .ensures .0) ∙ c .before .before .n .given .1) in omega (arith, f .3)
+part-served-agrees-start-2 c =
+    let f = file-served _ _ _ (sym (c .before .before .before .before .check-file .ensures .0) ∙ c .before .before .n .given .1) in
+    omega (arith, f .3)
 
 served-agrees-requires : tie.Need-served-agrees-requires
-served-agrees-requires c κs = let f = file-served _ _ _ (sym (c .before .before .before .before .before .check-file .ensures .0) ∙ c .before .before .before .n .given .1) in search (needs, f .0, f .1, f .2, f .3)
+served-agrees-requires c κs =
+    let f = file-served _ _ _ (sym (c .before .before .before .before .before .check-file .ensures .0) ∙ c .before .before .before .n .given .1) in
+    search (needs, f .0, f .1, f .2, f .3)
 
 pub run-agrees-spec : {M : Type 1} → statement M
 run-agrees-spec =
