@@ -3,26 +3,24 @@ use mathlib.Core.Path.{_≡_, refl, sym, _∙_, ap}
 use mathlib.Core.Bool.{Bool, true, false, not, cond}
 use mathlib.Core.Logic.{_⊎_, inl, inr}
 use mathlib.Core.List.{List, [], _∷_, _++_}
-use mathlib.Core.Option.{Option, none, some}
 use Prim.Native.Nat.{ℕ, zero, suc, _+_, _-_, _*_, _≤_, _<_}
 use native.Mathlib.Omega.{arith}
 use lib.Dec.{eqb, ltb}
 use lib.ListN.{length, getD, drop, length-take, length-drop}
 use lib.Seq.{drop-cons, drop-length}
 use borrow.Author.Tests.{eqb-true, ltb-false, not-false}
-use Rattle.model.specs.declared.Part.{Part}
-use Rattle.model.specs.declared.Word.{Word}
 use Rattle.model.specs.declared.Report.{Report}
 use Rattle.model.specs.declared.Ring.{Ring}
 use Rattle.model.specs.declared.ReportAnswer.the-variants.{Read, Refused}
 use Rattle.model.specs.declared.FileAnswer.the-variants as file
 use Rattle.model.specs.Values.{reportValues}
 use Rattle.model.specs.Plant.{smallest, largest}
-use Rattle.model.specs.Reports.{partNamed, wordNamed, fileSize, fileCount, fileCodes, fileWords, blankRing, withPlan}
-use Rattle.model.specs.Refusals.{firstMet, orElse, sizeOutside, reportConditions, reportOf, reportAnswer, reportsRefusal, fileRefusal, nextHealth}
+use Rattle.model.specs.Reports.{fileSize, fileCount, fileCodes, fileWords, blankRing, withPlan}
+use Rattle.model.specs.Refusals.{firstMet, orElse, sizeOutside, reportAnswer, reportsRefusal, fileRefusal, nextHealth}
 use Rattle.model.specs.Answers.{reportAt, fileAnswer}
 use Rattle.model.specs.Text.{header, transitionLine, reportLines, withReport, reportsOf, servedText, printedRun}
 use Rattle.model.specs.Laws.Tests.{dec}
+use Rattle.model.specs.Laws.Reports.{ReadOrRefused, read-or-refused}
 use Rattle.reports.specs.Reports.{within-both}
 use Rattle.model.specs.Laws.Refusals.{size-bounds}
 use Rattle.text.specs.Lines.{startLine, startRing, lineOf, ringOf, linesFrom}
@@ -41,23 +39,11 @@ or-else k l e = go (dec (eqb k 0))
 
 -- an answer without a number is a report that is read
 number-read : (n c v : ℕ) → reportValues (reportAnswer n c v) .0 ≡ 0 → (r : Report) × (reportAnswer n c v ≡ Read r)
-unfolding reportAnswer reportOf
-number-read n c v e = go (partNamed n c) (wordNamed v) e
+number-read n c v e = go (read-or-refused n c v)
   where
-    go : (o : Option Part) (u : Option Word) → reportValues (reportOf n o u) .0 ≡ 0 → (r : Report) × (reportOf n o u ≡ Read r)
-    go none u e = absurd (omega arith)
-    go (some p) none e = absurd (omega arith)
-    go (some p) (some w) e = last (record { part = p; word = w }) (dec (eqb (firstMet (reportConditions n (record { part = p; word = w }))) 0)) e
-      where
-        last : (q : Report) → (eqb (firstMet (reportConditions n q)) 0 ≡ true) ⊎ (eqb (firstMet (reportConditions n q)) 0 ≡ false)
-            → reportValues (cond (eqb (firstMet (reportConditions n q)) 0) (Read q) (Refused (firstMet (reportConditions n q)))) .0 ≡ 0
-            → (r : Report) × (cond (eqb (firstMet (reportConditions n q)) 0) (Read q) (Refused (firstMet (reportConditions n q))) ≡ Read r)
-        last q (inl t) e = (q, rw t)
-        last q (inr t) e =
-            let z : firstMet (reportConditions n q) ≡ 0 = rw t at e in
-            let y : eqb 0 0 ≡ false = rw z at t in
-            let x : _≡_ {A = ℕ} 0 1 = cc in
-            absurd (omega arith)
+    go : ReadOrRefused n (reportAnswer n c v) → (r : Report) × (reportAnswer n c v ≡ Read r)
+    go (inl t) = (t .0, t .1)
+    go (inr t) = absurd (t .2 (rw (t .1) at e))
 
 -- the i-th report of two stretches whose reports are not refused
 all-read : (n : ℕ) (cs ws : List ℕ) → reportsRefusal n cs ws ≡ 0 → (i : ℕ) → i < length cs → i < length ws

@@ -65,7 +65,8 @@ made-stands (stepped {ring = ring} r buffer m) = go (made-stands m)
     go : Stands ring → Stands (stepReply ring r buffer .answer .ring)
     go t = rw (t .5) at (step-stands (t .2) (t .3) (t .4) r buffer)
 
-made-good : {ring : Ring} → Made ring → badRecord ring ≡ false
+-- a record that start and steps make is not refused
+pub made-good : {ring : Ring} → Made ring → badRecord ring ≡ false
 unfolding Stands
 made-good m = let t = made-stands m in rw (t .5) at (steady-good (t .4) (t .2) (t .3))
 

@@ -1,14 +1,22 @@
--- Laws of codes and words: reading a code or a word undoes writing it.
+-- Laws of codes, words and reports: reading a code undoes writing it; a report is read or refused.
 use mathlib.Core.Path.{_≡_, refl}
-use mathlib.Core.Option.{some}
+use mathlib.Core.Bool.{cond}
+use mathlib.Core.Logic.{_⊎_, inl, inr, _≢_}
+use mathlib.Core.Option.{Option, none, some}
 use Prim.Native.Nat.{ℕ, _≤_, min}
 use native.Mathlib.Omega.{arith}
 use lib.Dec.{eqb}
-use borrow.Author.Tests.{eqb-true, eq-eqb}
+use borrow.Author.Tests.{eqb-true, eq-eqb, ne-eqb}
 use Rattle.model.specs.declared.Part.{Part}
+use Rattle.model.specs.declared.Word.{Word}
+use Rattle.model.specs.declared.Report.{Report}
+use Rattle.model.specs.declared.ReportAnswer.{ReportAnswer}
+use Rattle.model.specs.declared.ReportAnswer.the-variants.{Read, Refused}
 use Rattle.model.specs.Values.{partCode}
 use Rattle.model.specs.Plant.{largest, parts}
-use Rattle.model.specs.Reports.{partNamed}
+use Rattle.model.specs.Reports.{partNamed, wordNamed}
+use Rattle.model.specs.Refusals.{firstMet, reportConditions, reportOf, reportAnswer}
+use Rattle.model.specs.Laws.Tests.{dec-eq}
 use Rattle.model.specs.Laws.Lists.{first-only, first-at}
 use Rattle.model.specs.Laws.Parts.{InRing, parts-in, parts-at, code-only}
 
@@ -29,3 +37,27 @@ code-named n c p e =
     let t = first-at (λ q. eqb (partCode q) c) (parts (min n largest)) p e in
     let r = parts-at (min n largest) p (t .0) in
     ((r .0, omega (arith, r .1)), eqb-true (partCode p) c (t .1))
+
+-- a report that no condition meets is read, or there is a refusal
+abbrev pub ReadOrRefused : ℕ → ReportAnswer → Type 0
+ReadOrRefused n a = ((r : Report) × (a ≡ Read r) × (firstMet (reportConditions n r) ≡ 0)) ⊎ ((k : ℕ) × (a ≡ Refused k) × (k ≢ 0))
+
+-- a code and a word make one of the two
+pub read-or-refused : (n c v : ℕ) → ReadOrRefused n (reportAnswer n c v)
+unfolding reportAnswer reportOf
+read-or-refused n c v = go (partNamed n c) (wordNamed v)
+  where
+    go : (o : Option Part) (u : Option Word) → ReadOrRefused n (reportOf n o u)
+    go none u = inr (5, refl, λ e. omega arith)
+    go (some p) none = inr (6, refl, λ e. omega arith)
+    go (some p) (some w) = last (dec-eq k 0)
+      where
+        r : Report
+        r = record { part = p; word = w }
+
+        k : ℕ
+        k = firstMet (reportConditions n r)
+
+        last : (k ≡ 0) ⊎ (k ≢ 0) → ReadOrRefused n (cond (eqb k 0) (Read r) (Refused k))
+        last (inl e) = inl (r, rw (eq-eqb k 0 e), e)
+        last (inr e) = inr (k, rw (ne-eqb k 0 e), e)
