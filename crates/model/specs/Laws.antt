@@ -1,6 +1,7 @@
 pub mod Tests
 pub mod Lists
 pub mod Parts
+pub mod Choosing
 pub mod Sheet
 pub mod Reports
 pub mod Refusals

@@ -16,7 +16,7 @@ use Rattle.model.specs.Plant.{up}
 use Rattle.model.specs.Priority.{Path, sources, highRises, pathsFrom, paths}
 use Rattle.model.specs.Laws.Tests.{contra, and-left, and-right, and-intro, dec, dec-eq}
 use Rattle.model.specs.Laws.Lists.{_∈_}
-use Rattle.theory.specs.Demand2Holds.{sources-length}
+use Rattle.theory.specs.Priorities.{sources-length}
 use Rattle.theory.specs.Paths.{lower, upper, Ends, lower-lt, upper-lt, pathTo, from-at}
 use Rattle.planner.specs.declared.Span.{Span}
 use Rattle.planner.specs.declared.Found.{Found}

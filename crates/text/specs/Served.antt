@@ -30,7 +30,8 @@ use Rattle.model.specs.Laws.Reports.{ReadOrRefused, read-or-refused}
 use Rattle.model.specs.Laws.Refusals.{inside, good-size}
 use Rattle.theory.specs.Choosing.{chosen-ends}
 use Rattle.theory.specs.Operations.{opening-at, closing-at}
-use Rattle.theory.specs.Demand3Holds.{choices-at, choice-source, zero-served}
+use Rattle.model.specs.Laws.Choosing.{choices-at, choice-source}
+use Rattle.theory.specs.Demand3Holds.{zero-served}
 use Rattle.theory.specs.Records.{started, step-good, made-good}
 use Rattle.text.specs.Buses.{AllNamed, Named}
 use Rattle.text.specs.SheetLine.{SheetBytes, sheetLine, sheet-is, sheet-line, line-length}

@@ -1,37 +1,36 @@
 -- Demand 3 holds of the controller whose answers are the definitions that the contracts of start and step cite.
 use mathlib.Core.Path.{_≡_, refl, sym, _∙_, ap}
-use mathlib.Core.Bool.{Bool, true, false, cond, Bool·beq}
+use mathlib.Core.Bool.{Bool, true, false, cond}
 use mathlib.Core.Logic.{_≢_, _⊎_, inl, inr}
 use mathlib.Core.List.{List, [], _∷_, append-nil, Permᴰ·refl}
 use mathlib.Core.Option.{Option, none, some}
 use Prim.Native.Nat.{ℕ, zero, suc, _≤_, _<_}
 use native.Mathlib.Omega.{arith}
 use lib.Dec.{ltb, eqb}
-use lib.ListN.{length, getD}
-use borrow.Author.Tests.{ltb-true, ltb-false, lt-ltb, eq-eqb, ne-eqb}
+use lib.ListN.{length}
+use borrow.Author.Tests.{ltb-true, ltb-false, eq-eqb, ne-eqb}
 use Rattle.model.specs.declared.Part.{Part}
 use Rattle.model.specs.declared.Part.the-variants.{Generator, GeneratorBreaker, BusBreaker}
 use Rattle.model.specs.declared.Word.{Word}
 use Rattle.model.specs.declared.Word.the-variants.{Fit, StuckOff, StuckOpen, StuckClosed}
 use Rattle.model.specs.declared.Report.{Report}
 use Rattle.model.specs.declared.Ring.{Ring}
-use Rattle.model.specs.declared.Choice.{Choice}
 use Rattle.model.specs.declared.Choice.the-variants as choice
-use Rattle.model.specs.declared.BusChoice.{BusChoice}
 use Rattle.model.specs.declared.Outcome.the-variants as outcome
 use Rattle.model.specs.declared.Feed.the-variants as feed
 use Rattle.model.specs.Lists.{anyOf}
 use Rattle.model.specs.Values.{number, samePart, wordNumber, outcomeOf, choiceSource}
 use Rattle.model.specs.Plant.{PartHealth, PartCommands, smallest, largest, allOff, generatorBreaker, busBreaker, stuckClosed, healthOfKind, busFeed}
-use Rattle.model.specs.Priority.{Path, highRises}
+use Rattle.model.specs.Priority.{Path}
 use Rattle.model.specs.Choosing.{commands, choices, choiceOf, plan}
 use Rattle.model.specs.Sheet.{opening, closing, sheet}
-use Rattle.model.specs.Reports.{reported, allFit, places, healthOf, blankRing}
+use Rattle.model.specs.Reports.{reported, allFit, healthOf, blankRing}
 use Rattle.model.specs.Refusals.{firstMet, notOfRing, wordOfOtherKind, generatorFitAgain, tooShort, nextSheet, nextHealth, reportConditions, startRefusal}
 use Rattle.model.specs.Refusals.{stepRefusal}
 use Rattle.model.specs.Answers.{refusedReply, servedReply, startReply, stepReply}
-use Rattle.model.specs.Laws.Tests.{contra, dec, dec-eq, or-cases, or-none, by-cond}
-use Rattle.model.specs.Laws.Parts.{InRing, places-at, same-eq, command-places}
+use Rattle.model.specs.Laws.Tests.{contra, dec, dec-eq, or-cases, or-none}
+use Rattle.model.specs.Laws.Choosing.{choice-source, choice-dark, choices-at}
+use Rattle.model.specs.Laws.Parts.{InRing, same-eq, command-places}
 use Rattle.theory.specs.Completeness.{de-energized-exactly}
 use Rattle.theory.specs.Feeds.{Single, no-clash, energized-fed, de-energized-fed, reaches-usable, usable-reaches}
 use Rattle.theory.specs.Interruption.{Fewer, NoneStuckClosed, opening-single, closing-single}
@@ -290,26 +289,6 @@ module _ (n : ℕ) (buffer : List ℕ) (big : smallest ≤ n) (small : n ≤ lar
   ended-steady (refused {W = W} (step r lending) h e) = rw (step-refused (W .ring) r lending e) (ended-steady h)
 
 -- ---- what is shown
-
-choice-dark : (n : ℕ) (o : Option Path) → choiceOf n o ≡ choice.Dark → o ≡ none
-unfolding choiceOf
-choice-dark n none e = refl
-choice-dark n (some w) e = absurd (energized (eqb (w .source) (w .bus)) (Bool·beq (w .rising) (highRises n (w .source) (w .bus))) e)
-  where
-    energized : (a b : Bool) → cond a (choice.Own (suc (w .source))) (cond b (choice.High (suc (w .source))) (choice.Low (suc (w .source)))) ≡ choice.Dark → ⊥
-    energized true b e = let z : _≡_ {A = ℕ} 0 1 = cc in omega arith
-    energized false true e = let z : _≡_ {A = ℕ} 0 1 = cc in omega arith
-    energized false false e = let z : _≡_ {A = ℕ} 0 1 = cc in omega arith
-
-pub choice-source : (n : ℕ) (w : Path) → choiceSource (choiceOf n (some w)) ≡ suc (w .source)
-unfolding choiceOf
-choice-source n w = by-cond (λ (c : Choice). choiceSource c ≡ suc (w .source)) (eqb (w .source) (w .bus)) (λ e. refl)
-    (λ e. by-cond (λ (c : Choice). choiceSource c ≡ suc (w .source)) (Bool·beq (w .rising) (highRises n (w .source) (w .bus))) (λ e. refl) (λ e. refl))
-
-pub choices-at : (n : ℕ) (H : PartHealth) (b : ℕ) (d : BusChoice) → b < n → n ≤ largest → getD (choices n H) b d .choice ≡ choiceOf n (plan n H b)
-unfolding choices places
-choices-at n H b d h small =
-    ap (λ (c : BusChoice). c .choice) (places-at (λ k. record { choice = cond (ltb k n) (choiceOf n (plan n H k)) choice.Dark }) b d (omega arith)) ∙ rw (lt-ltb b n h)
 
 module _ {n : ℕ} {W : World} (small : n ≤ largest) (s : Steady n W) (b : ℕ) (hb : b < n) where
   abbrev K : PartHealth

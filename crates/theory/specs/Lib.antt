@@ -11,6 +11,7 @@ pub mod Operations
 pub mod Steady
 pub mod Demand3Holds
 pub mod Demand2
+pub mod Priorities
 pub mod Demand2Holds
 pub mod Wrong
 pub mod Records

@@ -38,9 +38,11 @@ use Rattle.theory.specs.Demand3.{Controller, PlantState, freshPlant, aft
 use Rattle.theory.specs.Demand3.{commandNamed, withOperation, operations, phasesAt, decode, Call, step, Calls, nothing, _then_, whole, replyTo, words}
 use Rattle.theory.specs.Demand3.{isServed, World, performed, Ended, started, served, refused, in-first, in-second, isStuckClosed, excepted, Interrupted}
 use Rattle.theory.specs.Demand3.{in-call, shownAt, BusShown, AsChosen, Holds, Demand3}
-use Rattle.theory.specs.Demand3Holds.{controller, choices-at}
+use Rattle.model.specs.Laws.Choosing.{choices-at}
+use Rattle.theory.specs.Priorities.{rising-distinct, distinct-shorter}
+use Rattle.theory.specs.Demand3Holds.{controller}
 use Rattle.theory.specs.Demand2.{FirstPermitted, found, not-found, earlier, Needed, Serves, Demand2}
-use Rattle.theory.specs.Demand2Holds.{rising-distinct, distinct-shorter, earlier-chosen, opens-exactly, closes-exactly, opens-rise, closes-rise}
+use Rattle.theory.specs.Demand2Holds.{earlier-chosen, opens-exactly, closes-exactly, opens-rise, closes-rise}
 
 -- ---- a controller made of a design
 
