@@ -164,7 +164,8 @@ module _ (n : ℕ) (H : PartHealth) (b : ℕ) (hb : b < n) where
     lines : setAll true (arc n (lower w) (pathSteps n w)) (served n H b .commands .«bus_breakers») ≡ places (λ i. onPaths n (w ∷ chosen n H b) (busBreaker i))
     unfolding served commandPlaces
     lines =
-        set-all-places (λ i. onPaths n (chosen n H b) (busBreaker i)) true (arc n (lower w) (pathSteps n w)) (λ i m. omega (arith, arc-at n (lower w) (pathSteps n w) i (lower-lt (ends .0)) m .0))
+        set-all-places (λ i. onPaths n (chosen n H b) (busBreaker i)) true (arc n (lower w) (pathSteps n w))
+        (λ i m. omega (arith, arc-at n (lower w) (pathSteps n w) i (lower-lt (ends .0)) m .0))
         ∙ places-ext _ _ (λ v l. bus-breaker-more n (chosen n H b) w v (ends .0))
 
     commanded : (l : List Bool) → l ≡ places (λ i. onPaths n (w ∷ chosen n H b) (busBreaker i))
@@ -230,7 +231,8 @@ module _ (n : ℕ) (H : PartHealth) (b : ℕ) (hb : b < n) where
 
 -- by the arrays of a search and its answer f
 module _ (n : ℕ) (h : Health) (b : ℕ) (usable : List Bool) (s : Progress) (f : Found) (hb : b < n) (hn : n ≤ largest)
-    (may : usable ≡ places (mayFeed (healthOf h))) (is : s ≡ served n (healthOf h) b) (finds : pathFound b f ≡ first (passesBy n usable (h .«bus_breakers») (s .owners)) (paths n b)) where
+    (may : usable ≡ places (mayFeed (healthOf h))) (is : s ≡ served n (healthOf h) b)
+    (finds : pathFound b f ≡ first (passesBy n usable (h .«bus_breakers») (s .owners)) (paths n b)) where
   found-plan : plan n (healthOf h) b ≡ pathFound b f
   unfolding served passes passesBy healthOf
   found-plan =

@@ -76,7 +76,8 @@ module _ (test : ℕ → Bool) (base i : ℕ) where
   more : codes test base (i + 1) ≡ codes test base i ++ cond (test i) ((base + i) ∷ []) []
   unfolding codes below keep
   more =
-      rw (add-one, keep-append, map-append) (ap (λ l. codes test base i ++ l) (by-cond (λ l. map (λ j. base + j) l ≡ cond (test i) ((base + i) ∷ []) []) (test i) (λ e. rw e) (λ e. rw e)))
+      rw (add-one, keep-append, map-append)
+      (ap (λ l. codes test base i ++ l) (by-cond (λ l. map (λ j. base + j) l ≡ cond (test i) ((base + i) ∷ []) []) (test i) (λ e. rw e) (λ e. rw e)))
 
   module _ {l l′ : List ℕ} {c j : ℕ} (a : Appended (codes test base i) l c l′ j) where
     pub codes-miss : test i ≡ false → Appended (codes test base (i + 1)) l c l′ j

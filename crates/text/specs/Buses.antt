@@ -85,4 +85,5 @@ module _ (cs : List BusChoice) where
           let x = map-at (busText cs) (below n) m in
           let b = x .0 in
           let l = below-lt n b (x .1) in
-          rw (x .2) (omega (arith, length-append (decimal (suc b)) (ascii "=" ++ choiceText (choiceAt cs b)), decimal-length 1 (suc b) (omega arith), choice-length (choiceAt cs b) (s b l)))
+          rw (x .2)
+          (omega (arith, length-append (decimal (suc b)) (ascii "=" ++ choiceText (choiceAt cs b)), decimal-length 1 (suc b) (omega arith), choice-length (choiceAt cs b) (s b l)))

@@ -142,7 +142,8 @@ unfolding behindSpaces zipWith operationText
 operations-length [] commands = omega arith
 operations-length (c ∷ codes) [] = omega arith
 operations-length (c ∷ codes) (v ∷ commands) =
-    omega (arith, length-append (operationText c v) (behindSpaces (zipWith operationText codes commands)), length-append (kindOf c) (marked (c % 32 + 1) (sign v)), kind-length c, marked-length (c % 32 + 1) (sign v) (omega arith), operations-length codes commands)
+    omega
+    (arith, length-append (operationText c v) (behindSpaces (zipWith operationText codes commands)), length-append (kindOf c) (marked (c % 32 + 1) (sign v)), kind-length c, marked-length (c % 32 + 1) (sign v) (omega arith), operations-length codes commands)
 
 pub phase-length : (codes commands : List ℕ) → length commands ≡ length codes → length (phaseOf codes commands) ≤ 1 + 6 * length codes
 unfolding ascii

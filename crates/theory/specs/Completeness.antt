@@ -260,7 +260,8 @@ module _ (n : ℕ) (H : PartHealth) (ws : List Path) (safe : Safe n H ws) (k : �
     where
       go : (g ≡ k) ⊎ (g ≢ k) → Permits n H ws k
       go (inl e) =
-          found true (λ x. up n x k) (rising n k hk) g hg (λ z. refl) (record { runs = u .runs; breaker = u .breaker; line = λ i hi l. absurd (omega (arith, ap (up n g) e, up-refl n g hg)) })
+          found true (λ x. up n x k) (rising n k hk) g hg (λ z. refl)
+          (record { runs = u .runs; breaker = u .breaker; line = λ i hi l. absurd (omega (arith, ap (up n g) e, up-refl n g hg)) })
       go (inr e) = found false (λ x. up n k x) (falling n k hk) g hg (λ z. absurd (e z)) u
 
   -- a usable path to k from a generator of the ring: some path is chosen

@@ -420,7 +420,8 @@ module _ (n : ℕ) (buffer : List ℕ) (big : smallest ≤ n) (small : n ≤ lar
   clash-free : {calls : Calls} {P : PlantState} {t : Bool} → Interrupted controller n buffer calls P t → t ≡ false → (b : ℕ) → b < n → Single n (P .health) (P .last) b
   unfolding afterWords
   clash-free (in-start {ph = ph} {rest = rest} e d m) u b hb =
-      moment-single n freshPlant [] (λ p i c. contra c refl) (rw (same-phases (rw (start-served n buffer e) at d) (served-decodes small (start-ready n small) buffer)) at m) (unless [] rest u) b hb
+      moment-single n freshPlant [] (λ p i c. contra c refl)
+      (rw (same-phases (rw (start-served n buffer e) at d) (served-decodes small (start-ready n small) buffer)) at m) (unless [] rest u) b hb
   clash-free (between {W = W} i h) u b hb = closing-single n (W .plant .health) (W .plant .last) (λ p i c. sym (steady h .planned p i) ∙ c) b hb
   clash-free (in-call {W = W} (step r lending) {ph = ph} {rest = rest} i h e d m) u b hb =
       moment-single n (W .plant) (r ∷ []) (λ p i c. sym (steady h .planned p i) ∙ c)

@@ -219,7 +219,8 @@ module _ (n : ℕ) (H : PartHealth) where
         runs = u .runs;
         on = commanded-in (generator (w .source)) m (source-on n w);
         breaker =
-            closed-by (H (generatorBreaker (w .source))) (commands n H (generatorBreaker (w .source))) (u .breaker) (commanded-in (generatorBreaker (w .source)) m (breaker-on n w));
+            closed-by (H (generatorBreaker (w .source))) (commands n H (generatorBreaker (w .source))) (u .breaker)
+            (commanded-in (generatorBreaker (w .source)) m (breaker-on n w));
         line = leads-mono counted-closed r;
       })
 

@@ -142,7 +142,8 @@ module _ (xs ys : List Part) (rest : List ℕ) where
 
   take-bytes : take (length xs + length ys) (drop (length xs + length ys) ((codes xs ys ++ bytes xs ys) ++ rest)) ≡ bytes xs ys
   take-bytes =
-      rw (append-assoc, drop-at (codes xs ys) (bytes xs ys ++ rest) (length xs + length ys) (codes-length xs ys)) (take-at (bytes xs ys) rest (length xs + length ys) (bytes-length xs ys))
+      rw (append-assoc, drop-at (codes xs ys) (bytes xs ys ++ rest) (length xs + length ys) (codes-length xs ys))
+      (take-at (bytes xs ys) rest (length xs + length ys) (bytes-length xs ys))
 
   behind-length : length ((codes xs ys ++ bytes xs ys) ++ rest) ≡ (length xs + length ys) + (length xs + length ys) + length rest
   behind-length = simp (length-append) (omega (arith, (codes-length xs ys), (bytes-length xs ys)))

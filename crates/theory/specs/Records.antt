@@ -106,7 +106,8 @@ served-step : {n : ℕ} {W : World} → smallest ≤ n → n ≤ largest → Ste
     → stepReply (W .ring) r room .answer .ring ≡ withPlan (W .ring) (nextHealth (W .ring) r)
 unfolding servedReply
 served-step {n} {W} big small s r i w =
-    ap (λ (x : Reply). x .answer .ring) (step-served (W .ring) r room (rw (step-outcome (W .ring) r room) (zero-served (refusal (W .ring) r room) (go (judged big small s r (length room))))))
+    ap (λ (x : Reply). x .answer .ring)
+    (step-served (W .ring) r room (rw (step-outcome (W .ring) r room) (zero-served (refusal (W .ring) r room) (go (judged big small s r (length room))))))
   where
     go : {k : ℕ} → Judged n (W .plant) r (length room) k → k ≡ 0
     go (met (no-part f)) = absurd (f i)
@@ -313,17 +314,21 @@ module _ (ring : Ring) (arrays : Arrays ring) (good : badRecord ring ≡ false) 
     health = record {
       generators = is-places (λ j. K (generator j)) (ring .health .generators) 0 (arrays .generators) (λ j l. same-health (generator j) (at-index largest j l)) i;
       «generator_breakers» =
-          is-places (λ j. K (generatorBreaker j)) (ring .health .«generator_breakers») 0 (arrays .generator-breakers) (λ j l. same-health (generatorBreaker j) (at-index largest j l)) i;
+          is-places (λ j. K (generatorBreaker j)) (ring .health .«generator_breakers») 0 (arrays .generator-breakers)
+          (λ j l. same-health (generatorBreaker j) (at-index largest j l)) i;
       «bus_breakers» =
           is-places (λ j. K (busBreaker j)) (ring .health .«bus_breakers») 0 (arrays .bus-breakers) (λ j l. same-health (busBreaker j) (at-index largest j l)) i;
     };
     commands = record {
       generators =
-          is-places (λ j. commands (ring .n) K (generator j)) (ring .commands .generators) false (arrays .generator-commands) (λ j l. same-commands (generator j) (at-index largest j l)) i;
+          is-places (λ j. commands (ring .n) K (generator j)) (ring .commands .generators) false (arrays .generator-commands)
+          (λ j l. same-commands (generator j) (at-index largest j l)) i;
       «generator_breakers» =
-          is-places (λ j. commands (ring .n) K (generatorBreaker j)) (ring .commands .«generator_breakers») false (arrays .generator-breaker-commands) (λ j l. same-commands (generatorBreaker j) (at-index largest j l)) i;
+          is-places (λ j. commands (ring .n) K (generatorBreaker j)) (ring .commands .«generator_breakers») false (arrays .generator-breaker-commands)
+          (λ j l. same-commands (generatorBreaker j) (at-index largest j l)) i;
       «bus_breakers» =
-          is-places (λ j. commands (ring .n) K (busBreaker j)) (ring .commands .«bus_breakers») false (arrays .bus-breaker-commands) (λ j l. same-commands (busBreaker j) (at-index largest j l)) i;
+          is-places (λ j. commands (ring .n) K (busBreaker j)) (ring .commands .«bus_breakers») false (arrays .bus-breaker-commands)
+          (λ j l. same-commands (busBreaker j) (at-index largest j l)) i;
     };
   }
 

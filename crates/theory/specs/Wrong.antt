@@ -458,7 +458,8 @@ answer-sound {n} {P} {reply} a e = go (or-cases (anyOf wrong (below n)) _ e)
     go : (anyOf wrong (below n) ≡ true) ⊎ (sizesFail n P (decode n (reply .buffer)) ≡ true) → ⊥
     go (inl x) =
         let t = any-at wrong (below n) x in
-        not-unequal (choiceNumber (getD (reply .answer .choices) (t .0) (record { choice = choice.Dark }) .choice)) (choiceNumber (choiceOf n (plan n (P .health) (t .0)))) (ap choiceNumber (a .names (t .0) (below-lt n (t .0) (t .1)))) (t .2)
+        not-unequal (choiceNumber (getD (reply .answer .choices) (t .0) (record { choice = choice.Dark }) .choice))
+        (choiceNumber (choiceOf n (plan n (P .health) (t .0)))) (ap choiceNumber (a .names (t .0) (below-lt n (t .0) (t .1)))) (t .2)
     go (inr x) = sizes (rw (a .decodes) at x)
 
 chosen-agrees : {n : ℕ} {P : PlantState} {reply : Reply} → n ≤ largest → AsChosen n P reply → Agrees n P reply

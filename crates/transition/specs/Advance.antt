@@ -47,7 +47,8 @@ sheetTo ring new = sheet (ring .n) (commandsOf (ring .commands)) (commandsOf new
 
 -- what the planner and the writing of the sheet say
 module _ (ring : Ring) (small : ring .n ≤ largest) (h : Health) (new : Commands) (planned : new ≡ commandPlaces (commands (ring .n) (healthOf h)))
-    (checked : Outcome) (buffer after : List ℕ) (o : Outcome) (told : o ≡ writeOutcome checked (sheetTo ring new) buffer) (left : after ≡ bufferAfter o (sheetTo ring new) buffer) where
+    (checked : Outcome) (buffer after : List ℕ) (o : Outcome) (told : o ≡ writeOutcome checked (sheetTo ring new) buffer)
+    (left : after ≡ bufferAfter o (sheetTo ring new) buffer) where
   -- the sheet written is the next one
   next-sheet : sheetTo ring new ≡ nextSheet ring (healthOf h)
   unfolding nextSheet

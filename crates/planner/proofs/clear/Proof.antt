@@ -36,14 +36,16 @@ loop-again c =
     let a = q .before .args in
     rw (c .next .ensures) (
       next-lt (a .n) (q .loop .k) (q .loop .inv .0),
-      q .loop .inv .1 ∙ clear-step (a .n) (at (a .breakers .now)) (at (a .owners .now)) (a .number) (q .loop .k) (q .loop .left) (d .before .before .loop-test .taken) (ne-eqb _ _ (d .if1 .left)) (sym (c .before .before .free .ensures) ∙ not-false _ (c .before .if2 .left)),
+      q .loop .inv .1
+          ∙ clear-step (a .n) (at (a .breakers .now)) (at (a .owners .now)) (a .number) (q .loop .k) (q .loop .left) (d .before .before .loop-test .taken) (ne-eqb _ _ (d .if1 .left)) (sym (c .before .before .free .ensures) ∙ not-false _ (c .before .if2 .left)),
     )
 
 returns-3 : tie.Need-returns-3 Inv-loop μ-loop
 returns-3 c =
     let q = c .before .before .before in
     let a = q .before .args in
-    c .free2 .ensures ∙ sym (q .loop .inv .1 ∙ clear-end (a .n) (at (a .breakers .now)) (at (a .owners .now)) (a .number) (q .loop .k) (q .loop .left) (c .before .before .loop-test .left))
+    c .free2 .ensures
+    ∙ sym (q .loop .inv .1 ∙ clear-end (a .n) (at (a .breakers .now)) (at (a .owners .now)) (a .number) (q .loop .k) (q .loop .left) (c .before .before .loop-test .left))
 
 pub clear-spec : {M : Type 1} → statement M
 clear-spec =

@@ -36,7 +36,8 @@ module _ (c : tie.After-source Inv-loop μ-loop Inv-sources μ-sources) where
   at-source : first tests (paths (c .before .before .before .args .n) (c .before .before .before .args .b)) ≡ first tests (pathsLeft (c .before .before .before .args .n) (c .before .before .before .args .b) (c .before .before .sources .r) (c .source .result) 0)
   at-source =
       let k = c .before .before in
-      k .sources .inv .2 ∙ left-source (k .before .args .n) (k .before .args .b) tests (k .sources .r) (c .source .result) (search auto) (c .before .sources-test .taken) (c .source .ensures .0)
+      k .sources .inv .2
+      ∙ left-source (k .before .args .n) (k .before .args .b) tests (k .sources .r) (c .source .result) (search auto) (c .before .sources-test .taken) (c .source .ensures .0)
 
 loop-holds : tie.Need-loop-holds Inv-loop μ-loop Inv-sources μ-sources
 loop-holds c = let d = c .before .before .before .before in (search auto, d .before .before .sources .inv .1, at-source d)
@@ -56,7 +57,8 @@ module _ (c : tie.After-permitted Inv-loop μ-loop Inv-sources μ-sources) where
   walked =
       let a = here .before .before .before .args in
       let d = c .before .before .before .before .before .before in
-      candidate-walk (a .n) (a .usable .now) (a .breakers .now) (a .owners .now) (a .b) (here .source .result) (c .before .before .before .loop .p) (c .before .rises .result) (c .permitted .result)
+      candidate-walk (a .n) (a .usable .now) (a .breakers .now) (a .owners .now) (a .b) (here .source .result) (c .before .before .before .loop .p)
+      (c .before .rises .result) (c .permitted .result)
       (sym (d .before .candidate .ensures) ∙ d .if1 .taken) rising (c .permitted .ensures)
 
   short : c .before .before .before .loop .p < pathCount (here .before .before .before .args .b) (here .source .result)
@@ -96,7 +98,8 @@ returns-2 c =
     let d = c .before in
     let q = d .before .before .before in
     let a = here d .before .before .before .args in
-    ap (λ t. some (pathTo (a .b) (here d .source .result) t)) (rising d) ∙ sym (q .loop .inv .2 ∙ left-hit (a .n) (a .b) (tests (here d)) (here d .before .before .sources .r) (here d .source .result) (q .loop .p) (short d) (walked d ∙ c .if2 .taken))
+    ap (λ t. some (pathTo (a .b) (here d .source .result) t)) (rising d)
+    ∙ sym (q .loop .inv .2 ∙ left-hit (a .n) (a .b) (tests (here d)) (here d .before .before .sources .r) (here d .source .result) (q .loop .p) (short d) (walked d ∙ c .if2 .taken))
 
 pub search-spec : {M : Type 1} → statement M
 search-spec =

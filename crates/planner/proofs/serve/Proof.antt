@@ -18,14 +18,16 @@ returns c =
     let d = c .before .before .before in
     let k = d .before .before .before .before .before .before in
     let a = k .args in
-    c .darken .ensures ∙ serve-dark (a .n) (a .health) (a .b) (a .t3) (a .s) (d .search .result) (search auto) (search auto) (k .pre .1 .0) (k .pre .1 .1) (d .search .ensures) (c .before .enum-told .given .1)
+    c .darken .ensures
+    ∙ serve-dark (a .n) (a .health) (a .b) (a .t3) (a .s) (d .search .result) (search auto) (search auto) (k .pre .1 .0) (k .pre .1 .1) (d .search .ensures) (c .before .enum-told .given .1)
 
 returns-2 : tie.Need-returns-2
 returns-2 c =
     let d = c .before .before .before .before in
     let k = d .before .before .before .before .before .before in
     let a = k .args in
-    c .take .ensures ∙ serve-path (a .n) (a .health) (a .b) (a .t3) (a .s) (d .search .result) (search auto) (search auto) (k .pre .1 .0) (k .pre .1 .1) (d .search .ensures) _ _ (c .before .before .g .given .1)
+    c .take .ensures
+    ∙ serve-path (a .n) (a .health) (a .b) (a .t3) (a .s) (d .search .result) (search auto) (search auto) (k .pre .1 .0) (k .pre .1 .1) (d .search .ensures) _ _ (c .before .before .g .given .1)
 
 pub serve-spec : {M : Type 1} → statement M
 serve-spec =

@@ -15,7 +15,8 @@ use Rattle.planner.specs.Progress.{closedBy}
 
 abbrev Inv-loop : tie.InvT-loop
 Inv-loop n breakers closed b number rising o₀ k₀ done₀ o k done =
-    (k < n) × (setAll number (reach n (closedBy (at breakers) closed) rising b n) o₀ ≡ setAll number (reach n (closedBy (at breakers) closed) rising k (n - done)) o) × (length o ≡ 20)
+    (k < n) × (setAll number (reach n (closedBy (at breakers) closed) rising b n) o₀ ≡ setAll number (reach n (closedBy (at breakers) closed) rising k (n - done)) o) ×
+    (length o ≡ 20)
 
 abbrev μ-loop : tie.MeasureT-loop
 μ-loop n breakers closed b number rising o₀ k₀ done₀ o k done = n - done
@@ -43,7 +44,8 @@ loop-again c =
     let e = rw (d .breaker-beside .ensures) at (sym (c .before .before .counted-closed .ensures) ∙ not-false _ (c .before .if1 .left)) in
     rw (c .bus-beside .ensures) (
       bus-lt (a .n) (a .rising) (q .loop .k) (q .loop .inv .0),
-      q .loop .inv .1 ∙ reach-step (a .number) (a .n) (q .loop .k) (a .n) (q .loop .done) (q .loop .o) (closedBy (at (a .breakers .now)) (a .closed .now)) (a .rising) (d .before .loop-test .taken) e,
+      q .loop .inv .1
+          ∙ reach-step (a .number) (a .n) (q .loop .k) (a .n) (q .loop .done) (q .loop .o) (closedBy (at (a .breakers .now)) (a .closed .now)) (a .rising) (d .before .loop-test .taken) e,
       length-set (q .loop .o) (q .loop .k) (a .number) ∙ q .loop .inv .2,
     )
 

@@ -14,7 +14,8 @@ unfolding healthOf
 returns c =
     let u = c .before .before .before in
     let d = u .before .before .before .before .before in
-    taken-by _ _ _ _ _ _ _ _ _ _ (d .before .named .ensures) (d .number-of .ensures) (d .before .before .before .before .span-of .ensures) (d .before .before .close .ensures) (u .spread .ensures) (c .spread2 .ensures)
+    taken-by _ _ _ _ _ _ _ _ _ _ (d .before .named .ensures) (d .number-of .ensures) (d .before .before .before .before .span-of .ensures)
+    (d .before .before .close .ensures) (u .spread .ensures) (c .spread2 .ensures)
 
 pub take-spec : {M : Type 1} → statement M
 take-spec =

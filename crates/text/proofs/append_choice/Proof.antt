@@ -23,7 +23,8 @@ returns-2 c =
     let b = d .before .before in
     let l = b .before .before in
     let s = l .before .before in
-    rw (choice-named (s .args .choice) (l .letter .ensures) (b .source .ensures) (s .pre .0) (b .before .if1 .left)) (appended-more (appended-byte _ _ _) (d .append-marked .ensures))
+    rw (choice-named (s .args .choice) (l .letter .ensures) (b .source .ensures) (s .pre .0) (b .before .if1 .left))
+    (appended-more (appended-byte _ _ _) (d .append-marked .ensures))
 
 pub append-choice-spec : {M : Type 1} → statement M
 append-choice-spec =

@@ -18,7 +18,8 @@ returns-3 : tie.Need-returns-3
 returns-3 c =
     let d = c .before .before in
     let a = d .before .before .before .before .before .args in
-    rw (marked-more (a .k) (a .k / 10) (a .k % 10) (a .mark) (omega arith) (omega arith) (omega arith) (omega arith)) (appended-more (appended-byte _ _ _) (d .append-digit3 .ensures))
+    rw (marked-more (a .k) (a .k / 10) (a .k % 10) (a .mark) (omega arith) (omega arith) (omega arith) (omega arith))
+    (appended-more (appended-byte _ _ _) (d .append-digit3 .ensures))
 
 pub append-marked-spec : {M : Type 1} → statement M
 append-marked-spec =

@@ -35,13 +35,15 @@ append-phases-requires c κs =
     let d = first e in
     let s = start d in (
       s .pre .4,
-      omega (arith, e .append-buses .kept, d .append-number .kept, e .append-buses .ensures .end, d .append-number .ensures .end, decimal-length 3 (s .args .i) (s .pre .0), buses-length (s .args .choices) (s .args .n) (s .pre .2) (s .pre .3), s .pre .4 .few, s .pre),
+      omega
+          (arith, e .append-buses .kept, d .append-number .kept, e .append-buses .ensures .end, d .append-number .ensures .end, decimal-length 3 (s .args .i) (s .pre .0), buses-length (s .args .choices) (s .args .n) (s .pre .2) (s .pre .3), s .pre .4 .few, s .pre),
     )
 
 -- the whole line, which fits
 stored : (f : tie.After-append-phases)
     → let a = start (first (second f)) .args in
-    Appended (sheetLine (a .i) (a .n) (a .choices) (now (a .sheet))) (now (a .out)) 0 (set (f .append-phases .last .1 .0) (f .append-phases .result) 10) (f .append-phases .result + 1)
+    Appended (sheetLine (a .i) (a .n) (a .choices) (now (a .sheet))) (now (a .out)) 0 (set (f .append-phases .last .1 .0) (f .append-phases .result) 10)
+    (f .append-phases .result + 1)
 unfolding ascii
 stored f =
     let e = second f in

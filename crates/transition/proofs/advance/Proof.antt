@@ -13,7 +13,8 @@ returns : tie.Need-returns
 returns c =
     let d = c .before .before .before .before in
     let p = d .before .before .before .before .before in
-    advance-served _ (search needs) _ _ (p .plan .ensures .1) _ _ _ _ (d .write .ensures .0) (d .write .ensures .1) (c .enum-told .given .1) (sized (p .before .before)) _ (p .plan .ensures .0)
+    advance-served _ (search needs) _ _ (p .plan .ensures .1) _ _ _ _ (d .write .ensures .0) (d .write .ensures .1) (c .enum-told .given .1) (sized (p .before .before)) _
+    (p .plan .ensures .0)
 
 returns-2 : tie.Need-returns-2
 returns-2 c =

@@ -23,7 +23,8 @@ returns-2 : tie.Need-returns-2
 returns-2 c =
     let d = c .before .before .before .before .before .before .before in
     let b = d .before .before .before in
-    start-refused _ (search needs) (search needs) _ _ (b .blank .ensures) _ _ (d .advance .ensures) _ (c .before .before .before .outcome .given .1) _ (c .refused .ensures ∙ ap (refusedAnswer _) (c .before .blank2 .ensures))
+    start-refused _ (search needs) (search needs) _ _ (b .blank .ensures) _ _ (d .advance .ensures) _ (c .before .before .before .outcome .given .1) _
+    (c .refused .ensures ∙ ap (refusedAnswer _) (c .before .blank2 .ensures))
 
 pub start-spec : {M : Type 1} → statement M
 start-spec =
