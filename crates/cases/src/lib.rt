@@ -1,4 +1,4 @@
-// What the programs that run stored cases share: finding the cases, reading arrays from a case, comparing bytes, counting.
+// What the programs that run stored cases share: reading arrays from a case, comparing bytes.
 ghost use mathlib.Core.Path.{_≡_};
 ghost use Prim.Native.Nat.{_+_, _≤_};
 ghost use lib.Dec.{eqb};
@@ -6,13 +6,7 @@ ghost use lib.ListN.{length, getD};
 ghost use Rattle.model.specs.Values.{outcomeNumber};
 ghost use Rattle.model.specs.Reports.{places};
 ghost use Rattle.cases.specs.Bytes.{sameBytes};
-use libc::STDOUT_FILENO;
 use model::Outcome;
-
-// A descriptor of the stored cases, which the gate puts beside the program.
-pub fn open() -> i32 {
-    os::open_read(b"cases")
-}
 
 // Twenty bytes of a case.
 pub fn bytes_at(case: &[u8], from: usize) -> [u8; 20]
@@ -60,12 +54,4 @@ pub fn same_bytes(ours: &[u8], expected: &[u8]) -> bool
         same &= ours[i] == expected[i];
     }
     same
-}
-
-// Prints how many cases there were, and how many of them differ.
-pub fn print_counts(cases: u64, differ: u64) {
-    io::print_decimal(STDOUT_FILENO, cases);
-    io::write_all(STDOUT_FILENO, b" cases, ");
-    io::print_decimal(STDOUT_FILENO, differ);
-    io::write_all(STDOUT_FILENO, b" differ\n");
 }

@@ -140,7 +140,7 @@ fn breaker_health(health: u8) -> bool
     health == FIT || (health == STUCK_OPEN || health == STUCK_CLOSED)
 }
 
-// 9 "only for a part up to n whose health is not one of its kind". An inner call, for callers that know n.
+// 9 "only for a part up to n whose health is not one of its kind". An inner call: n is at most 20, which its callers have checked.
 pub fn health_outside(n: usize, health: Health) -> bool
     requires { ⌜ n ≤ 20 ⌝ }
     ensures { λ r. ⌜ r ≡ healthOutside (healthOf health) (parts n) ⌝ }

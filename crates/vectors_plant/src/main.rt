@@ -1,5 +1,6 @@
 // Stored reckonings, held against the simulation's answers: see tests/make_vectors.py for the layout of a case.
 ghost use Prim.Native.Nat.{_≤_};
+use libc::STDOUT_FILENO;
 use model::BusFeed;
 use model::Commands;
 use model::Feed;
@@ -52,7 +53,8 @@ fn misses(case: &[u8; 182]) -> u64
 }
 
 fn main() {
-    let stored = cases::open();
+    // The gate puts data/cases beside the program.
+    let stored = os::open_read(b"cases");
     let mut cases: u64 = 0;
     let mut differ: u64 = 0;
     for _ in 0..100000usize {
@@ -63,5 +65,8 @@ fn main() {
         cases += 1;
         differ += misses(&case);
     }
-    cases::print_counts(cases, differ);
+    io::print_decimal(STDOUT_FILENO, cases);
+    io::write_all(STDOUT_FILENO, b" cases, ");
+    io::print_decimal(STDOUT_FILENO, differ);
+    io::write_all(STDOUT_FILENO, b" differ\n");
 }
