@@ -9,12 +9,12 @@ use Rattle.model.specs.declared.Ring.{Ring}
 use Rattle.model.specs.declared.Commands.{Commands}
 use Rattle.model.specs.Lists.{anyOf}
 use Rattle.model.specs.Values.{number}
-use Rattle.model.specs.Plant.{PartHealth, PartCommands, largest, parts, fit}
+use Rattle.model.specs.Plant.{PartHealth, PartCommands, largest, parts, fit, InRing}
 use Rattle.model.specs.Choosing.{commands}
 use Rattle.model.specs.Reports.{healthOf, commandsOf, commandPlaces}
 use Rattle.model.specs.Refusals.{sizeOutside, healthOutside, activeAbove, unplanned, badRecord}
 use Rattle.model.specs.Laws.Lists.{any-ext}
-use Rattle.model.specs.Laws.Parts.{InRing, parts-at, some-part, no-part, command-places}
+use Rattle.model.specs.Laws.Parts.{parts-at, some-part, no-part, command-places}
 
 -- "not fit or not ordered off or open"
 abbrev pub active : PartHealth → PartCommands → Part → Bool

@@ -3,6 +3,7 @@ use mathlib.Core.Bool.{Bool, not, _&&_, _||_, cond, Bool·beq}
 use mathlib.Core.List.{List, [], _∷_, map}
 use mathlib.Core.Option.{Option, none, some}
 use Prim.Native.Nat.{ℕ, zero, suc}
+use Prim.Native.Char.{code}
 use lib.Dec.{ltb, eqb}
 use Rattle.model.specs.declared.Part.{Part}
 use Rattle.model.specs.declared.Choice.{Choice}
@@ -10,7 +11,7 @@ use Rattle.model.specs.declared.Choice.the-variants.{Dark, Own, High, Lo
 use Rattle.model.specs.declared.BusChoice.{BusChoice}
 use Rattle.model.specs.Lists.{below, first, anyOf, allOf}
 use Rattle.model.specs.Values.{samePart}
-use Rattle.model.specs.Plant.{PartHealth, PartCommands, largest, generator, busBreaker, fit, stuckOpen, stuckClosed, connected}
+use Rattle.model.specs.Plant.{PartHealth, PartCommands, largest, busBreaker, fitGenerator, stuckOpen, stuckClosed, connected}
 use Rattle.model.specs.Priority.{Path, pathBreakers, pathParts, highRises, paths}
 
 -- part p is on one of the paths ws
@@ -19,7 +20,7 @@ onPaths n ws p = anyOf (λ w. anyOf (samePart p) (pathParts n w)) ws
 
 -- "its generator is fit, no breaker on it is stuck open"
 unfoldable pub usable : ℕ → PartHealth → Path → Bool
-usable n H w = fit (H (generator (w .source))) && allOf (λ p. not (stuckOpen (H p))) (pathBreakers n w)
+usable n H w = fitGenerator H (w .source) && allOf (λ p. not (stuckOpen (H p))) (pathBreakers n w)
 
 -- "counting as closed the stuck-closed breakers and those on this way and on the ways already chosen"
 unfoldable pub countedClosed : ℕ → PartHealth → List Path → ℕ → Bool
@@ -62,6 +63,18 @@ choiceOf n none = Dark
 choiceOf n (some w) =
     cond (eqb (w .source) (w .bus)) (Own (suc (w .source)))
     (cond (Bool·beq (w .rising) (highRises n (w .source) (w .bus))) (High (suc (w .source))) (Low (suc (w .source))))
+
+-- "its source and way (`o` own, `h` high, `l` low; `-` alone when dark ..)": a path's generator and letter
+unfoldable pub pathValues : ℕ → Option Path → ℕ × ℕ
+pathValues n none = (0, code "-")
+pathValues n (some w) = (
+  suc (w .source),
+  cond (eqb (w .source) (w .bus)) (code "o") (cond (Bool·beq (w .rising) (highRises n (w .source) (w .bus))) (code "h") (code "l")),
+)
+
+-- the generator and the letter of each bus; a bus above n is dark
+unfoldable pub planValues : ℕ → PartHealth → List (ℕ × ℕ)
+planValues n H = map (λ b. cond (ltb b n) (pathValues n (plan n H b)) (pathValues n none)) (below largest)
 
 -- each bus's choice; "so, always, is a bus above n" dark
 unfoldable pub choices : ℕ → PartHealth → List BusChoice

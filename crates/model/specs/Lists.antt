@@ -1,8 +1,8 @@
--- Lists searched by tests: what the definitions of document 01 are written with.
+-- Lists searched by tests, their members and their order: what the definitions of document 01 are written with.
 use mathlib.Core.Bool.{Bool, true, false, _&&_, _||_, cond}
-use mathlib.Core.List.{List, [], _∷_, _++_}
+use mathlib.Core.List.{List, [], _∷_, _++_, List·Memᴰ}
 use mathlib.Core.Option.{Option, none, some}
-use Prim.Native.Nat.{ℕ, zero, suc}
+use Prim.Native.Nat.{ℕ, zero, suc, _<_}
 
 -- the numbers below n, rising
 unfoldable pub below : ℕ → List ℕ
@@ -28,3 +28,18 @@ anyOf f (x ∷ xs) = let r = anyOf f xs in f x || r
 unfoldable pub allOf : {A : Type 0} → (A → Bool) → List A → Bool
 allOf f [] = true
 allOf f (x ∷ xs) = let r = allOf f xs in f x && r
+
+-- nothing was found
+abbrev pub isNone : {A : Type 0} → Option A → Bool
+isNone none = true
+isNone (some x) = false
+
+-- x is a member of xs
+abbrev pub _∈_ : {A : Type 0} → A → List A → Type 0
+x ∈ xs = List·Memᴰ x xs
+
+infix 4 _∈_
+-- a list whose elements rise by a measure, so that none stands twice
+pub data RisingBy {A : Type 0} (g : A → ℕ) : List A → Type 0 where
+  empty : RisingBy g []
+  more : {x : A} {xs : List A} → ((y : A) → y ∈ xs → g x < g y) → RisingBy g xs → RisingBy g (x ∷ xs)

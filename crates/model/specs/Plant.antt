@@ -2,7 +2,7 @@
 use mathlib.Core.Path.{_≡_}
 use mathlib.Core.Bool.{Bool, true, false, not, _&&_, _||_, cond}
 use mathlib.Core.List.{List, [], _∷_, _++_, map}
-use Prim.Native.Nat.{ℕ, zero, suc, _+_, _-_, _<_}
+use Prim.Native.Nat.{ℕ, zero, suc, _+_, _-_, _<_, _≤_}
 use lib.Dec.{leb, eqb}
 use Rattle.model.specs.declared.Part.{Part}
 use Rattle.model.specs.declared.Part.the-variants.{Generator, GeneratorBreaker, BusBreaker}
@@ -10,7 +10,7 @@ use Rattle.model.specs.declared.Word.the-variants.{Fit, StuckOff, StuckO
 use Rattle.model.specs.declared.Feed.{Feed}
 use Rattle.model.specs.declared.Feed.the-variants.{Dark, Fed, Clash}
 use Rattle.model.specs.Lists.{below, keep, allOf}
-use Rattle.model.specs.Values.{wordNumber}
+use Rattle.model.specs.Values.{number, wordNumber}
 
 -- "n from 3 to 20": the smallest ring
 abbrev pub smallest : ℕ
@@ -35,6 +35,10 @@ busBreaker i = BusBreaker (suc i)
 -- all parts of a ring of n, in rising code
 unfoldable pub parts : ℕ → List Part
 parts n = map generator (below n) ++ (map generatorBreaker (below n) ++ map busBreaker (below n))
+
+-- "B1 to Bn": p is a part of a ring of n
+abbrev pub InRing : ℕ → Part → Type 0
+InRing n p = (0 < number p) × (number p ≤ n)
 
 -- the health of each part: the number of the word that brought it about
 abbrev pub PartHealth : Type 0
@@ -65,6 +69,10 @@ unfoldable pub healthOfKind : Part → ℕ → Bool
 healthOfKind (Generator k) h = fit h || stuckOff h
 healthOfKind (GeneratorBreaker k) h = fit h || stuckOpen h || stuckClosed h
 healthOfKind (BusBreaker k) h = fit h || stuckOpen h || stuckClosed h
+
+-- "A generator is fit": the one definition by which choosing, running and reaching judge generator g
+abbrev pub fitGenerator : PartHealth → ℕ → Bool
+fitGenerator H g = fit (H (generator g))
 
 -- "A fit part does what it was last ordered; a stuck part ignores orders.": a breaker of this health and command is closed
 abbrev pub closed : ℕ → Bool → Bool
@@ -104,7 +112,7 @@ busBreakerClosed H C i = closed (H (busBreaker i)) (C (busBreaker i))
 
 -- "A generator is running when it is fit and ordered on"
 abbrev pub running : PartHealth → PartCommands → ℕ → Bool
-running H C g = fit (H (generator g)) && C (generator g)
+running H C g = fitGenerator H g && C (generator g)
 
 -- "it feeds every bus joined to its own while its generator breaker is closed": generator g feeds bus b
 unfoldable pub feeds : ℕ → PartHealth → PartCommands → ℕ → ℕ → Bool
@@ -123,3 +131,10 @@ feedBy (g ∷ h ∷ gs) = Clash (suc g) (suc h)
 -- "The plant reckoning takes n, the health of all parts and any set of orders.": its answer for bus b
 unfoldable pub busFeed : ℕ → PartHealth → PartCommands → ℕ → Feed
 busFeed n H C b = feedBy (feeders n H C b)
+
+-- "no fit generator has a run of breakers to it, none stuck open" (demand 3): generator g has one to bus b
+pub record Reaches (n : ℕ) (H : PartHealth) (b g : ℕ) : Type 0 where
+  pub inside : g < n
+  pub runs : fitGenerator H g ≡ true
+  pub breaker : stuckOpen (H (generatorBreaker g)) ≡ false
+  pub line : Leads n (λ i. not (stuckOpen (H (busBreaker i)))) g b

@@ -2,7 +2,7 @@
 use mathlib.Core.Bool.{Bool, false, not, _&&_, _||_, cond, Bool·beq}
 use mathlib.Core.List.{List, [], _∷_, _++_}
 use mathlib.Core.Option.{Option, none, some}
-use Prim.Native.Nat.{ℕ, _+_, _*_}
+use Prim.Native.Nat.{ℕ, _+_, _*_, min}
 use lib.Dec.{ltb, eqb}
 use lib.ListN.{length}
 use Rattle.model.specs.declared.Part.{Part}
@@ -12,12 +12,12 @@ use Rattle.model.specs.declared.Report.{Report}
 use Rattle.model.specs.declared.Ring.{Ring}
 use Rattle.model.specs.declared.ReportAnswer.{ReportAnswer}
 use Rattle.model.specs.declared.ReportAnswer.the-variants.{Read, Refused}
-use Rattle.model.specs.Lists.{anyOf}
+use Rattle.model.specs.Lists.{anyOf, isNone}
 use Rattle.model.specs.Values.{number, wordNumber, reportValues}
 use Rattle.model.specs.Plant.{PartHealth, PartCommands, smallest, largest, parts, fit, healthOfKind}
 use Rattle.model.specs.Choosing.{commands}
 use Rattle.model.specs.Sheet.{sheet}
-use Rattle.model.specs.Reports.{fileSize, fileCount, fileCodes, fileWords, partNamed, wordNamed, reported, allFit, healthOf, commandsOf, blankRing}
+use Rattle.model.specs.Reports.{fileSize, fileCount, fileCodes, fileWords, partNamed, wordNamed, healthOf, commandsOf, blankRing, told, planned}
 
 -- the number of the first refusal of a list whose condition is met, 0 where none is
 unfoldable pub firstMet : List (ℕ × Bool) → ℕ
@@ -32,9 +32,9 @@ orElse k l = cond (eqb k 0) l k
 unfoldable pub sizeOutside : ℕ → Bool
 sizeOutside n = ltb n smallest || ltb largest n
 
--- 5: "code names no part of this ring"; of a part itself, that its number is none of the ring's
+-- 5: "code names no part of this ring"; of a part itself, that its number is none of the ring's. A ring has at most 20 of each kind
 unfoldable pub notOfRing : ℕ → Part → Bool
-notOfRing n p = ltb (number p) 1 || ltb n (number p)
+notOfRing n p = ltb (number p) 1 || ltb (min n largest) (number p)
 
 -- 6: "word above 3, word 1 for a breaker, or 2 or 3 for a generator"
 unfoldable pub wordOfOtherKind : Part → ℕ → Bool
@@ -77,13 +77,9 @@ badRecord ring =
     ∷ unplanned (ring .n) H C
     ∷ [])
 
--- the sheet that takes a ring to another health
-unfoldable pub nextSheet : Ring → PartHealth → List ℕ
-nextSheet ring H = sheet (ring .n) (commandsOf (ring .commands)) (commands (ring .n) H)
-
--- the health of a ring after a report
-abbrev pub nextHealth : Ring → Report → PartHealth
-nextHealth ring r = reported (healthOf (ring .health)) r
+-- the sheet from a ring's standing commands to those that its health calls for
+unfoldable pub nextSheet : Ring → List ℕ
+nextSheet ring = sheet (ring .n) (commandsOf (ring .commands)) (planned ring)
 
 -- "each 5, 6, 7": of a report in a ring of n
 unfoldable pub reportConditions : ℕ → Report → List (ℕ × Bool)
@@ -91,14 +87,26 @@ reportConditions n r =
     let v = wordNumber (r .word) in
     (5, notOfRing n (r .part)) ∷ (6, wordOfOtherKind (r .part) v) ∷ (7, generatorFitAgain (r .part) v) ∷ []
 
+-- 8 of a sheet
+unfoldable pub sheetRefusal : ℕ → List ℕ → ℕ
+sheetRefusal room bytes = firstMet ((8, tooShort room bytes) ∷ [])
+
+-- 5 of a code
+unfoldable pub codeRefusal : ℕ → ℕ → ℕ
+codeRefusal n c = firstMet ((5, isNone (partNamed n c)) ∷ [])
+
+-- 6 of a byte that is no word
+unfoldable pub byteRefusal : ℕ → ℕ
+byteRefusal v = firstMet ((6, isNone (wordNamed v)) ∷ [])
+
 -- "a start 2, 8"
 unfoldable pub startRefusal : ℕ → ℕ → ℕ
-startRefusal n room = firstMet ((2, sizeOutside n) ∷ (8, tooShort room (nextSheet (blankRing n) allFit)) ∷ [])
+startRefusal n room = firstMet ((2, sizeOutside n) ∷ (8, tooShort room (nextSheet (blankRing n))) ∷ [])
 
 -- "A step checks 9, 5, 6, 7, 8"
 unfoldable pub stepRefusal : Ring → Report → ℕ → ℕ
 stepRefusal ring r room =
-    firstMet ((9, badRecord ring) ∷ (reportConditions (ring .n) r ++ ((8, tooShort room (nextSheet ring (nextHealth ring r))) ∷ [])))
+    firstMet ((9, badRecord ring) ∷ (reportConditions (ring .n) r ++ ((8, tooShort room (nextSheet (told ring r))) ∷ [])))
 
 -- "the plant reckoning 2, then 9 only for a part up to n whose health is not one of its kind"
 unfoldable pub feedsRefusal : ℕ → PartHealth → ℕ
@@ -117,11 +125,15 @@ reportOf n (some p) (some w) =
 unfoldable pub reportAnswer : ℕ → ℕ → ℕ → ReportAnswer
 reportAnswer n c v = reportOf n (partNamed n c) (wordNamed v)
 
+-- the refusal of the report that a code and a word make, 0 where there is none
+unfoldable pub reportRefusal : ℕ → ℕ → ℕ → ℕ
+reportRefusal n c v = reportValues (reportAnswer n c v) .0
+
 -- "then its reports first to last"
 unfoldable pub reportsRefusal : ℕ → List ℕ → List ℕ → ℕ
 reportsRefusal n [] vs = 0
 reportsRefusal n (c ∷ cs) [] = 0
-reportsRefusal n (c ∷ cs) (v ∷ vs) = let rest = reportsRefusal n cs vs in orElse (reportValues (reportAnswer n c v) .0) rest
+reportsRefusal n (c ∷ cs) (v ∷ vs) = let rest = reportsRefusal n cs vs in orElse (reportRefusal n c v) rest
 
 -- "A file is checked 1, 2, 3, 4, then its reports first to last, each 5, 6, 7."
 unfoldable pub fileRefusal : List ℕ → ℕ

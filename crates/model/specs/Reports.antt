@@ -93,6 +93,14 @@ commandPlaces C =
 unfoldable pub blankRing : ℕ → Ring
 blankRing n = record { n = n; health = healthPlaces allFit; commands = commandPlaces allOff }
 
--- the ring state with another health, and the commands that it calls for
-unfoldable pub withPlan : Ring → PartHealth → Ring
-withPlan ring H = record { n = ring .n; health = healthPlaces H; commands = commandPlaces (commands (ring .n) H) }
+-- what a report does to a ring state before any command: its word's effect on the health
+unfoldable pub told : Ring → Report → Ring
+told ring r = record { n = ring .n; health = healthPlaces (reported (healthOf (ring .health)) r); commands = ring .commands }
+
+-- the commands that a ring's health calls for
+unfoldable pub planned : Ring → PartCommands
+planned ring = commands (ring .n) (healthOf (ring .health))
+
+-- the ring state with the commands that its health calls for: the one maker of ring states after a served call
+unfoldable pub withPlan : Ring → Ring
+withPlan ring = record { n = ring .n; health = ring .health; commands = commandPlaces (planned ring) }

@@ -17,11 +17,10 @@ use Rattle.model.specs.declared.ReportAnswer.{ReportAnswer}
 use Rattle.model.specs.declared.ReportAnswer.the-variants.{Read, Refused, Missing}
 use Rattle.model.specs.Lists.{below}
 use Rattle.model.specs.Values.{number, choiceSource, choiceLetter}
-use Rattle.model.specs.Plant.{PartHealth}
-use Rattle.model.specs.Choosing.{choices, commands}
+use Rattle.model.specs.Choosing.{choices}
 use Rattle.model.specs.Sheet.{opening, closing}
-use Rattle.model.specs.Reports.{fileSize, fileCount, fileCodes, fileWords, allFit, commandsOf, blankRing, withPlan}
-use Rattle.model.specs.Refusals.{reportAnswer, fileRefusal, nextHealth}
+use Rattle.model.specs.Reports.{fileSize, fileCount, fileCodes, fileWords, healthOf, commandsOf, blankRing, told, planned, withPlan}
+use Rattle.model.specs.Refusals.{reportAnswer, fileRefusal}
 
 -- the bytes of a quoted text
 unfoldable pub ascii : String → List ℕ
@@ -72,17 +71,17 @@ line i n cs xs ys =
     decimal i ++ (ascii " " ++ (spaced (map (busText cs) (below n))
     ++ (ascii " / " ++ (phaseText "-" xs ++ (ascii " / " ++ (phaseText "+" ys ++ ascii "\n"))))))
 
--- line i, on which a ring is taken to another health
-unfoldable pub transitionLine : ℕ → Ring → PartHealth → List ℕ
-transitionLine i ring H =
+-- line i, of a ring that was told its reports
+unfoldable pub transitionLine : ℕ → Ring → List ℕ
+transitionLine i ring =
     let n = ring .n in
     let old = commandsOf (ring .commands) in
-    line i n (choices n H) (opening n old (commands n H)) (closing n old (commands n H))
+    line i n (choices n (healthOf (ring .health))) (opening n old (planned ring)) (closing n old (planned ring))
 
 -- the lines of the reports rs, the first of which is line i
 unfoldable pub reportLines : Ring → ℕ → List Report → List ℕ
 reportLines ring i [] = []
-reportLines ring i (r ∷ rs) = transitionLine i ring (nextHealth ring r) ++ reportLines (withPlan ring (nextHealth ring r)) (suc i) rs
+reportLines ring i (r ∷ rs) = transitionLine i (told ring r) ++ reportLines (withPlan (told ring r)) (suc i) rs
 
 -- a report that was read, before others
 unfoldable pub withReport : ReportAnswer → List Report → List Report
@@ -109,8 +108,8 @@ unfoldable pub servedText : List ℕ → List ℕ
 servedText f =
     let n = fileSize f in
     header n (fileCount f)
-    ++ (transitionLine 0 (blankRing n) allFit
-    ++ reportLines (withPlan (blankRing n) allFit) 1 (reportsOf n (fileCodes f) (fileWords f)))
+    ++ (transitionLine 0 (blankRing n)
+    ++ reportLines (withPlan (blankRing n)) 1 (reportsOf n (fileCodes f) (fileWords f)))
 
 -- the printed run of a fault file
 unfoldable pub printedRun : List ℕ → List ℕ

@@ -1,7 +1,7 @@
 -- The paper's number and values for every case of every enum that is, or is in, an answer.
 -- Numbers of parts, buses and generators are the paper's, from 1.
 use mathlib.Core.Bool.{Bool, _&&_, cond}
-use mathlib.Core.List.{List, [], _∷_}
+use mathlib.Core.List.{List, [], _∷_, map}
 use Prim.Native.Nat.{ℕ, zero, suc, _+_}
 use Prim.Native.Char.{code}
 use lib.Dec.{eqb}
@@ -13,6 +13,7 @@ use Rattle.model.specs.declared.Outcome.{Outcome}
 use Rattle.model.specs.declared.Outcome.the-variants as outcome
 use Rattle.model.specs.declared.Choice.{Choice}
 use Rattle.model.specs.declared.Choice.the-variants as choice
+use Rattle.model.specs.declared.BusChoice.{BusChoice}
 use Rattle.model.specs.declared.Feed.{Feed}
 use Rattle.model.specs.declared.Feed.the-variants as feed
 use Rattle.model.specs.declared.PartAnswer.{PartAnswer}
@@ -85,7 +86,15 @@ feedSources feed.Dark = []
 feedSources (feed.Fed g) = g ∷ []
 feedSources (feed.Clash g h) = g ∷ h ∷ []
 
--- The small answers: the refusal's number, 0 where there is none, and the values given.
+-- a choice's generator and letter, bus by bus
+unfoldable pub choiceValues : List BusChoice → List (ℕ × ℕ)
+choiceValues cs = map (λ (c : BusChoice). (choiceSource (c .choice), choiceLetter (c .choice))) cs
+
+-- The small answers, all in one shape: the refusal's number, 0 where there is none, and the values given.
+
+-- the values vs where no refusal has the number k, none where one has
+unfoldable pub numbered : ℕ → List ℕ → ℕ × List ℕ
+numbered k vs = (k, cond (eqb k 0) vs [])
 
 -- the part's code
 abbrev pub partValues : PartAnswer → ℕ × List ℕ

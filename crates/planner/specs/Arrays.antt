@@ -8,11 +8,10 @@ use lib.Dec.{eqb}
 use lib.ListN.{length, getD, set, length-set}
 use lib.Seq.{getD-set-same, getD-set-other}
 use borrow.Author.Tests.{eq-eqb, ne-eqb}
-use Rattle.model.specs.Lists.{anyOf}
+use Rattle.model.specs.Lists.{anyOf, _∈_}
 use Rattle.model.specs.Plant.{largest}
 use Rattle.model.specs.Reports.{places}
 use Rattle.model.specs.Laws.Tests.{dec-eq}
-use Rattle.model.specs.Laws.Lists.{_∈_}
 use Rattle.model.specs.Laws.Parts.{places-length, places-at, is-places}
 
 -- the list with x stored at each of the places is

@@ -9,12 +9,12 @@ use Prim.Native.Nat.{ℕ, zero, suc, _≤_, _<_}
 use native.Mathlib.Omega.{arith}
 use lib.Dec.{eqb}
 use borrow.Author.Tests.{eqb-true, eq-eqb, not-true}
-use Rattle.model.specs.Lists.{first}
+use Rattle.model.specs.Lists.{first, _∈_}
 use Rattle.model.specs.Plant.{PartHealth, generator, generatorBreaker, busBreaker, fit, stuckOpen, stuckClosed, next, up, Leads, connected}
 use Rattle.model.specs.Priority.{Path, pathBusBreakers, paths}
 use Rattle.model.specs.Choosing.{countedClosed, permitted, choose}
 use Rattle.model.specs.Laws.Tests.{contra, not-of, and-left, and-right, and-intro, or-cases, or-right, iff, dec, dec-eq}
-use Rattle.model.specs.Laws.Lists.{_∈_, all-cons, first-at, first-in, first-ext}
+use Rattle.model.specs.Laws.Lists.{all-cons, first-at, first-in, first-ext}
 use Rattle.theory.specs.Geometry.{next-lt, up-refl, up-next-right}
 use Rattle.theory.specs.Connected.{Near, leads-mono, leads-trans, leads-sym, arc-leads, connected-leads, leads-connected, leads-split}
 use Rattle.theory.specs.Paths.{lower, upper, Ends, lower-lt, upper-lt, path-at, path-in, tried-at}

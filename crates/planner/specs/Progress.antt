@@ -16,14 +16,14 @@ use Rattle.model.specs.declared.Choice.the-variants.{Dark}
 use Rattle.model.specs.declared.BusChoice.{BusChoice}
 use Rattle.model.specs.declared.Health.{Health}
 use Rattle.model.specs.declared.Commands.{Commands}
-use Rattle.model.specs.Lists.{first, anyOf}
+use Rattle.model.specs.Lists.{first, anyOf, _∈_}
 use Rattle.model.specs.Values.{samePart}
 use Rattle.model.specs.Plant.{PartHealth, largest, generator, generatorBreaker, busBreaker, stuckClosed, arc}
 use Rattle.model.specs.Priority.{Path, pathParts, paths}
 use Rattle.model.specs.Choosing.{onPaths, countedClosed, permitted, choose, addPath, chosen, plan, commands, choiceOf, choices}
 use Rattle.model.specs.Reports.{places, healthOf, commandPlaces}
 use Rattle.model.specs.Laws.Tests.{iff, dec, dec-lt, below-other, below-last}
-use Rattle.model.specs.Laws.Lists.{_∈_, any-at, any-in, first-at, first-ext}
+use Rattle.model.specs.Laws.Lists.{any-at, any-in, first-at, first-ext}
 use Rattle.model.specs.Laws.Parts.{same-eq, same-refl, places-at, places-ext, places-set, set-places, is-places}
 use Rattle.theory.specs.Geometry.{arc-at, arc-in}
 use Rattle.theory.specs.Connected.{connected-ext}

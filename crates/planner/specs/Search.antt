@@ -11,11 +11,10 @@ use lib.Dec.{eqb}
 use lib.ListN.{getD, drop, length, drop-of-length-le}
 use lib.Seq.{drop-cons}
 use borrow.Author.Tests.{eq-eqb, ne-eqb, le-leb}
-use Rattle.model.specs.Lists.{first}
+use Rattle.model.specs.Lists.{first, _∈_}
 use Rattle.model.specs.Plant.{up}
 use Rattle.model.specs.Priority.{Path, sources, highRises, pathsFrom, paths}
 use Rattle.model.specs.Laws.Tests.{contra, and-left, and-right, and-intro, dec, dec-eq}
-use Rattle.model.specs.Laws.Lists.{_∈_}
 use Rattle.theory.specs.Priorities.{sources-length}
 use Rattle.theory.specs.Paths.{lower, upper, Ends, lower-lt, upper-lt, pathTo, from-at}
 use Rattle.planner.specs.declared.Span.{Span}

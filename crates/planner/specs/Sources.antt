@@ -9,10 +9,10 @@ use lib.Dec.{leb, ltb, eqb}
 use lib.ListN.{length, getD, length-append, List·getD-append}
 use lib.Seq.{getD-append-add, getD-at}
 use borrow.Author.Tests.{le-leb, lt-ltb, le-ltb, eq-eqb, ne-eqb}
-use Rattle.model.specs.Lists.{below, keep}
+use Rattle.model.specs.Lists.{below, keep, _∈_}
 use Rattle.model.specs.Priority.{others, sources}
 use Rattle.model.specs.Laws.Tests.{not-of, dec-lt}
-use Rattle.model.specs.Laws.Lists.{_∈_, below-at, keep-append}
+use Rattle.model.specs.Laws.Lists.{below-at, keep-append}
 
 -- the source of bus b at place r of its priority
 unfoldable pub sourceAt : ℕ → ℕ → ℕ → ℕ

@@ -8,10 +8,10 @@ use native.Mathlib.Omega.{arith}
 use lib.Dec.{eqb}
 use lib.ListN.{set}
 use borrow.Author.Tests.{eqb-true, eq-eqb, ne-eqb, not-true}
-use Rattle.model.specs.Lists.{anyOf}
+use Rattle.model.specs.Lists.{anyOf, _∈_}
 use Rattle.model.specs.Plant.{stuckOpen, next, up, arc, Leads, stay, rise, fall, connected}
 use Rattle.model.specs.Laws.Tests.{not-of, and-left, and-right, and-intro, or-cases, or-left, or-right, iff, dec, dec-eq}
-use Rattle.model.specs.Laws.Lists.{_∈_, any-at, any-in}
+use Rattle.model.specs.Laws.Lists.{any-at, any-in}
 use Rattle.theory.specs.Geometry.{Next, more, last, next-cases, next-lt, up-refl, up-zero, up-lt, up-next, up-next-right}
 use Rattle.theory.specs.Connected.{Arc, leads-arcs, connected-leads, leads-connected}
 use Rattle.planner.specs.Arrays.{setAll}

@@ -3,11 +3,11 @@ use mathlib.Core.Path.{_≡_}
 use mathlib.Core.Bool.{true, false, not}
 use Prim.Native.Nat.{ℕ}
 use Rattle.model.specs.declared.Part.{Part}
-use Rattle.model.specs.Plant.{PartHealth, parts, healthOfKind}
+use Rattle.model.specs.Plant.{PartHealth, parts, healthOfKind, InRing}
 use Rattle.model.specs.Refusals.{healthOutside}
 use Rattle.model.specs.Laws.Tests.{not-of}
 use Rattle.model.specs.Laws.Lists.{any-in, any-false}
-use Rattle.model.specs.Laws.Parts.{InRing, parts-in, parts-at}
+use Rattle.model.specs.Laws.Parts.{parts-in, parts-at}
 
 -- one part with a health of another kind, or none
 module _ (H : PartHealth) (n : ℕ) where

@@ -11,10 +11,9 @@ use Rattle.model.specs.declared.PartAnswer.the-variants as part
 use Rattle.model.specs.declared.WordAnswer.{WordAnswer}
 use Rattle.model.specs.declared.WordAnswer.the-variants as word
 use Rattle.model.specs.Values.{number, firstCode, wordNumber, partValues, wordValues}
-use Rattle.model.specs.Plant.{largest}
+use Rattle.model.specs.Plant.{largest, InRing}
 use Rattle.model.specs.Reports.{partNamed, wordNamed}
 use Rattle.model.specs.Answers.{partAnswer, wordAnswer}
-use Rattle.model.specs.Laws.Parts.{InRing}
 use Rattle.model.specs.Laws.Reports.{code-named}
 use Rattle.reports.specs.Codes.{ofRing, in-range, outside-ranges, number-names, word-named, no-word}
 

@@ -14,12 +14,12 @@ use Rattle.model.specs.declared.Word.{Word}
 use Rattle.model.specs.declared.Word.the-variants.{Fit, StuckOff, StuckOpen, StuckClosed}
 use Rattle.model.specs.Lists.{first}
 use Rattle.model.specs.Values.{number, index, firstCode, partCode, wordNumber}
-use Rattle.model.specs.Plant.{largest, parts}
+use Rattle.model.specs.Plant.{largest, parts, InRing}
 use Rattle.model.specs.Reports.{partNamed, wordNamed}
 use Rattle.model.specs.Refusals.{notOfRing}
 use Rattle.model.specs.Laws.Tests.{dec-lt}
 use Rattle.model.specs.Laws.Lists.{first-at, first-none}
-use Rattle.model.specs.Laws.Parts.{InRing, parts-at, code-only}
+use Rattle.model.specs.Laws.Parts.{parts-at, code-only}
 use Rattle.model.specs.Laws.Reports.{named-code}
 
 -- ---- parts

@@ -8,13 +8,13 @@ use native.Mathlib.Omega.{arith}
 use lib.ListN.{getD, set}
 use Rattle.model.specs.declared.Part.{Part}
 use Rattle.model.specs.declared.Commands.{Commands}
-use Rattle.model.specs.Lists.{below, keep, anyOf}
+use Rattle.model.specs.Lists.{below, keep, anyOf, _∈_}
 use Rattle.model.specs.Values.{partCode}
 use Rattle.model.specs.Plant.{largest, generator, generatorBreaker, busBreaker, parts}
 use Rattle.model.specs.Sheet.{opening, closing}
 use Rattle.model.specs.Reports.{commandsOf}
 use Rattle.model.specs.Laws.Tests.{contra, by-cond}
-use Rattle.model.specs.Laws.Lists.{_∈_, below-in, below-lt, any-none, keep-append}
+use Rattle.model.specs.Laws.Lists.{below-in, below-lt, any-none, keep-append}
 use Rattle.model.specs.Laws.Lists.{keep-map, keep-none}
 use Rattle.model.specs.Laws.Appended.{Appended, appended-none, appended-one}
 

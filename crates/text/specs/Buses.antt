@@ -11,12 +11,12 @@ use borrow.Author.Tests.{eq-eqb, ne-eqb}
 use Rattle.model.specs.declared.Choice.{Choice}
 use Rattle.model.specs.declared.Choice.the-variants.{Dark, Own, High, Low}
 use Rattle.model.specs.declared.BusChoice.{BusChoice}
-use Rattle.model.specs.Lists.{below}
+use Rattle.model.specs.Lists.{below, _∈_}
 use Rattle.model.specs.Values.{choiceSource, choiceLetter}
 use Rattle.model.specs.Plant.{largest}
 use Rattle.model.specs.Text.{ascii, decimal, choiceText, busText}
 use Rattle.model.specs.Laws.Tests.{dec-eq}
-use Rattle.model.specs.Laws.Lists.{_∈_, map-at, below-lt, below-length}
+use Rattle.model.specs.Laws.Lists.{map-at, below-lt, below-length}
 use Rattle.text.specs.Numbers.{marked, decimal-length, marked-length}
 use Rattle.text.specs.Spaced.{behindSpaces, behind-one, behind-length}
 

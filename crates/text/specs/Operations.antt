@@ -15,11 +15,11 @@ use borrow.Author.Tests.{lt-ltb, le-ltb}
 use Rattle.model.specs.declared.Part.{Part}
 use Rattle.model.specs.declared.Part.the-variants.{Generator, GeneratorBreaker, BusBreaker}
 use Rattle.model.specs.Values.{number, index, partCode}
-use Rattle.model.specs.Plant.{largest}
+use Rattle.model.specs.Plant.{largest, InRing}
 use Rattle.model.specs.Text.{ascii, decimal, spaced, kindName, partName, phaseText}
 use Rattle.model.specs.Laws.Tests.{dec-eq}
-use Rattle.model.specs.Laws.Lists.{_∈_}
-use Rattle.model.specs.Laws.Parts.{InRing, index-suc}
+use Rattle.model.specs.Lists.{_∈_}
+use Rattle.model.specs.Laws.Parts.{index-suc}
 use Rattle.text.specs.Numbers.{marked, marked-length}
 use Rattle.text.specs.Spaced.{behindSpaces, behind-spaced, behind-one}
 

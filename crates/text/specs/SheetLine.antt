@@ -7,13 +7,12 @@ use lib.ListN.{length, getD, take, drop, length-append, length-map, length-drop}
 use lib.Seq.{take-append-seam, drop-append-seam, length-take-le}
 use Rattle.model.specs.declared.Part.{Part}
 use Rattle.model.specs.declared.BusChoice.{BusChoice}
-use Rattle.model.specs.Lists.{below}
+use Rattle.model.specs.Lists.{below, _∈_}
 use Rattle.model.specs.Values.{partCode}
-use Rattle.model.specs.Plant.{largest}
+use Rattle.model.specs.Plant.{largest, InRing}
 use Rattle.model.specs.Sheet.{sheetOf, written}
 use Rattle.model.specs.Text.{ascii, decimal, spaced, busText, line, header, refusedText}
-use Rattle.model.specs.Laws.Lists.{_∈_, below-length}
-use Rattle.model.specs.Laws.Parts.{InRing}
+use Rattle.model.specs.Laws.Lists.{below-length}
 use Rattle.text.specs.Numbers.{decimal-length}
 use Rattle.text.specs.Spaced.{behindSpaces, behind-spaced}
 use Rattle.text.specs.Buses.{AllNamed, buses-length}

@@ -6,7 +6,7 @@ use Prim.Native.Char.{code}
 use native.Mathlib.Omega.{arith}
 use lib.ListN.{length, length-append}
 use Rattle.model.specs.Text.{ascii, spaced}
-use Rattle.model.specs.Laws.Lists.{_∈_}
+use Rattle.model.specs.Lists.{_∈_}
 
 -- each text behind a space
 unfoldable pub behindSpaces : List (List ℕ) → List ℕ

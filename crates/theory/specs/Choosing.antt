@@ -9,13 +9,13 @@ use native.Mathlib.Omega.{arith}
 use lib.Dec.{eqb}
 use borrow.Author.Tests.{eqb-true, eq-eqb, not-true}
 use Rattle.model.specs.declared.Part.{Part}
-use Rattle.model.specs.Lists.{anyOf, allOf}
+use Rattle.model.specs.Lists.{anyOf, allOf, _∈_}
 use Rattle.model.specs.Values.{samePart}
-use Rattle.model.specs.Plant.{PartHealth, generator, generatorBreaker, busBreaker, fit, stuckOpen, stuckClosed, Leads, connected}
+use Rattle.model.specs.Plant.{PartHealth, generator, generatorBreaker, busBreaker, fitGenerator, stuckOpen, stuckClosed, Leads, connected}
 use Rattle.model.specs.Priority.{Path, pathBusBreakers, pathBreakers, pathParts, paths}
 use Rattle.model.specs.Choosing.{onPaths, usable, countedClosed, isolated, permitted, choose, addPath, chosen}
 use Rattle.model.specs.Laws.Tests.{contra, not-of, and-left, and-right, and-intro, or-cases, or-left, or-right, dec}
-use Rattle.model.specs.Laws.Lists.{_∈_, all-cons, any-at, any-in, all-at, all-of, map-in, first-at}
+use Rattle.model.specs.Laws.Lists.{all-cons, any-at, any-in, all-at, all-of, map-in, first-at}
 use Rattle.model.specs.Laws.Parts.{same-eq, same-refl}
 use Rattle.theory.specs.Connected.{connected-leads, leads-connected}
 use Rattle.theory.specs.Paths.{Ends, Uses, OnPath, at-generator, at-generator-breaker, at-bus-breaker, on-path, path-at, path-in, bus-breaker-on}
@@ -37,7 +37,7 @@ on-in n p m q = any-in (λ w. anyOf (samePart p) (pathParts n w)) m (any-in (sam
 -- ---- a usable path
 
 pub record Usable (n : ℕ) (H : PartHealth) (w : Path) : Type 0 where
-  pub runs : fit (H (generator (w .source))) ≡ true
+  pub runs : fitGenerator H (w .source) ≡ true
   pub breaker : stuckOpen (H (generatorBreaker (w .source))) ≡ false
   pub line : (i : ℕ) → i < n → Uses n w i → stuckOpen (H (busBreaker i)) ≡ false
 
@@ -48,7 +48,7 @@ module _ {n : ℕ} {H : PartHealth} {w : Path} (h : Ends n w) where
   pub usable-at : usable n H w ≡ true → Usable n H w
   unfolding usable pathBreakers
   usable-at e =
-      let A = fit (H (generator (w .source))) in
+      let A = fitGenerator H (w .source) in
       let all = all-at (notOpen H) (pathBreakers n w) (and-right A _ e) in
       record {
         runs = and-left A _ e;
@@ -59,7 +59,7 @@ module _ {n : ℕ} {H : PartHealth} {w : Path} (h : Ends n w) where
   pub usable-of : Usable n H w → usable n H w ≡ true
   unfolding usable
   usable-of u =
-      and-intro (fit (H (generator (w .source)))) _ (u .runs) (all-of (notOpen H) (pathBreakers n w) (λ p m. not-of (stuckOpen (H p)) (go p (on-path n w p (breakers-on n w p m)))))
+      and-intro (fitGenerator H (w .source)) _ (u .runs) (all-of (notOpen H) (pathBreakers n w) (λ p m. not-of (stuckOpen (H p)) (go p (on-path n w p (breakers-on n w p m)))))
     where
       go : (p : Part) → OnPath n w p → stuckOpen (H p) ≡ false
       go p at-generator = rw (eqb-true (H (generator (w .source))) 0 (u .runs))

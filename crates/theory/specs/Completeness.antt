@@ -9,12 +9,12 @@ use native.Mathlib.Omega.{arith}
 use native.Mathlib.Nat.{not-suc-le-zero}
 use lib.Dec.{ltb}
 use borrow.Author.Tests.{ltb-true, lt-ltb}
-use Rattle.model.specs.Lists.{anyOf}
+use Rattle.model.specs.Lists.{anyOf, _∈_}
 use Rattle.model.specs.Plant.{PartHealth, busBreaker, stuckOpen, next, up, Leads, connected}
 use Rattle.model.specs.Priority.{Path, pathBusBreakers, paths}
 use Rattle.model.specs.Choosing.{countedClosed, permitted, choose, chosen, plan}
 use Rattle.model.specs.Laws.Tests.{contra, or-cases, or-left, or-right, dec, dec-eq, dec-lt}
-use Rattle.model.specs.Laws.Lists.{_∈_, all-cons, any-at, any-in, first-at, first-in, none-some}
+use Rattle.model.specs.Laws.Lists.{all-cons, any-at, any-in, first-at, first-in, none-some}
 use Rattle.theory.specs.Geometry.{up-refl, up-next, up-next-right, up-through, up-nested, up-inj, up-inj-left, next-lt}
 use Rattle.theory.specs.Connected.{Arc, Near, connected-leads, leads-connected, leads-mono, leads-trans, leads-sym, arc-leads, leads-arcs, leads-split}
 use Rattle.theory.specs.Paths.{Ends, Uses, lower, upper, pathTo, path-at, tried}

@@ -11,12 +11,11 @@ use lib.ListN.{length, getD}
 use Rattle.model.specs.declared.Part.{Part}
 use Rattle.model.specs.declared.Choice.the-variants.{Dark}
 use Rattle.model.specs.Values.{partCode}
-use Rattle.model.specs.Plant.{PartHealth, smallest, largest}
+use Rattle.model.specs.Plant.{PartHealth, smallest, largest, InRing}
 use Rattle.model.specs.Priority.{Path, sources, pathParts, paths}
 use Rattle.model.specs.Choosing.{permitted, addPath, choiceOf}
 use Rattle.model.specs.Answers.{Reply}
-use Rattle.model.specs.Laws.Lists.{_∈_, RisingBy}
-use Rattle.model.specs.Laws.Parts.{InRing}
+use Rattle.model.specs.Lists.{_∈_, RisingBy}
 use Rattle.theory.specs.Demand3.{Controller, PlantState, freshPlant, afterWords, Operation, Phases, decode, Calls, Call, Ended, World, Performed, replyTo}
 use Rattle.theory.specs.Demand3.{words, isServed}
 

@@ -8,18 +8,18 @@ use mathlib.Core.Option.{Option, some}
 use Prim.Native.Nat.{ℕ, zero, suc, _≤_}
 use Rattle.model.specs.declared.Part.{Part}
 use Rattle.model.specs.declared.Choice.the-variants.{Dark}
-use Rattle.model.specs.Lists.{first}
+use Rattle.model.specs.Lists.{first, _∈_, RisingBy}
 use Rattle.model.specs.Values.{partCode}
-use Rattle.model.specs.Plant.{PartHealth, PartCommands, largest}
+use Rattle.model.specs.Plant.{PartHealth, PartCommands, largest, InRing}
 use Rattle.model.specs.Priority.{Path, paths}
 use Rattle.model.specs.Choosing.{permitted, choose, chosen, plan, commands}
 use Rattle.model.specs.Sheet.{opening, closing}
 use Rattle.model.specs.Answers.{Reply}
 use Rattle.model.specs.Laws.Tests.{contra, dec}
-use Rattle.model.specs.Laws.Lists.{_∈_, all-cons, map-in, RisingBy, rising-keep}
+use Rattle.model.specs.Laws.Lists.{all-cons, map-in, rising-keep}
 use Rattle.model.specs.Laws.Lists.{rising-map}
 use Rattle.model.specs.Laws.Choosing.{choices-at}
-use Rattle.model.specs.Laws.Parts.{InRing, parts-rise}
+use Rattle.model.specs.Laws.Parts.{parts-rise}
 use Rattle.theory.specs.Choosing.{on-in}
 use Rattle.theory.specs.Feeds.{commanded-at}
 use Rattle.theory.specs.Demand3.{PlantState, Operation, operation, nothing, _then_, whole, Performed, performed, AsChosen}

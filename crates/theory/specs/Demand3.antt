@@ -24,13 +24,11 @@ use Rattle.model.specs.declared.Outcome.the-variants as outcome
 use Rattle.model.specs.declared.Feed.the-variants as feed
 use Rattle.model.specs.Lists.{anyOf}
 use Rattle.model.specs.Values.{number, samePart, choiceSource}
-use Rattle.model.specs.Plant.{PartHealth, PartCommands, smallest, largest, busFeed}
+use Rattle.model.specs.Plant.{PartHealth, PartCommands, smallest, largest, busFeed, InRing, Reaches}
 use Rattle.model.specs.Choosing.{commands, choices}
 use Rattle.model.specs.Sheet.{opening, closing, sheet}
 use Rattle.model.specs.Reports.{partNamed, healthOf, commandsOf}
 use Rattle.model.specs.Answers.{Reply}
-use Rattle.model.specs.Laws.Parts.{InRing}
-use Rattle.theory.specs.Feeds.{Reaches}
 
 -- a controller: what it gives at a start, and at a step with the record handed in
 pub record Controller : Type 0 where

@@ -4,7 +4,7 @@ use mathlib.Core.Bool.{Bool, true, false, cond}
 use mathlib.Core.Logic.{_≢_, _⊎_, inl, inr}
 use mathlib.Core.List.{List, [], _∷_, append-nil, Permᴰ·refl}
 use mathlib.Core.Option.{Option, none, some}
-use Prim.Native.Nat.{ℕ, zero, suc, _≤_, _<_}
+use Prim.Native.Nat.{ℕ, zero, suc, _≤_, _<_, min}
 use native.Mathlib.Omega.{arith}
 use lib.Dec.{ltb, eqb}
 use lib.ListN.{length}
@@ -20,17 +20,17 @@ use Rattle.model.specs.declared.Outcome.the-variants as outcome
 use Rattle.model.specs.declared.Feed.the-variants as feed
 use Rattle.model.specs.Lists.{anyOf}
 use Rattle.model.specs.Values.{number, samePart, wordNumber, outcomeOf, choiceSource}
-use Rattle.model.specs.Plant.{PartHealth, PartCommands, smallest, largest, allOff, generatorBreaker, busBreaker, stuckClosed, healthOfKind, busFeed}
+use Rattle.model.specs.Plant.{PartHealth, PartCommands, smallest, largest, allOff, generatorBreaker, busBreaker, stuckClosed, healthOfKind, busFeed, InRing}
 use Rattle.model.specs.Priority.{Path}
 use Rattle.model.specs.Choosing.{commands, choices, choiceOf, plan}
 use Rattle.model.specs.Sheet.{opening, closing, sheet}
-use Rattle.model.specs.Reports.{reported, allFit, healthOf, blankRing}
-use Rattle.model.specs.Refusals.{firstMet, notOfRing, wordOfOtherKind, generatorFitAgain, tooShort, nextSheet, nextHealth, reportConditions, startRefusal}
+use Rattle.model.specs.Reports.{reported, allFit, healthOf, blankRing, told}
+use Rattle.model.specs.Refusals.{firstMet, notOfRing, wordOfOtherKind, generatorFitAgain, tooShort, nextSheet, reportConditions, startRefusal}
 use Rattle.model.specs.Refusals.{stepRefusal}
-use Rattle.model.specs.Answers.{refusedReply, servedReply, startReply, stepReply}
+use Rattle.model.specs.Answers.{refusedAnswer, refusedReply, servedAnswer, servedReply, startReply, stepReply}
 use Rattle.model.specs.Laws.Tests.{contra, dec, dec-eq, or-cases, or-none}
 use Rattle.model.specs.Laws.Choosing.{choice-source, choice-dark, choices-at}
-use Rattle.model.specs.Laws.Parts.{InRing, same-eq, command-places}
+use Rattle.model.specs.Laws.Parts.{same-eq, health-places, command-places}
 use Rattle.theory.specs.Completeness.{de-energized-exactly}
 use Rattle.theory.specs.Feeds.{Single, no-clash, energized-fed, de-energized-fed, reaches-usable, usable-reaches}
 use Rattle.theory.specs.Interruption.{Fewer, NoneStuckClosed, opening-single, closing-single}
@@ -78,14 +78,14 @@ module _ (ring : Ring) (r : Report) (buffer : List ℕ) where
   refusal = stepRefusal ring r (length buffer)
 
   pub step-outcome : stepReply ring r buffer .answer .outcome ≡ outcomeOf refusal
-  unfolding stepReply servedReply refusedReply
+  unfolding stepReply servedReply servedAnswer refusedReply refusedAnswer outcomeOf
   step-outcome = go (dec-eq refusal 0)
     where
       go : (refusal ≡ 0) ⊎ (refusal ≢ 0) → stepReply ring r buffer .answer .outcome ≡ outcomeOf refusal
       go (inl e) = rw e
       go (inr e) = rw (ne-eqb refusal 0 e)
 
-  pub step-served : isServed (stepReply ring r buffer) ≡ true → stepReply ring r buffer ≡ servedReply ring (nextHealth ring r) buffer
+  pub step-served : isServed (stepReply ring r buffer) ≡ true → stepReply ring r buffer ≡ servedReply (told ring r) buffer
   unfolding stepReply
   step-served e = rw (served-zero refusal (rw step-outcome at e))
 
@@ -93,13 +93,13 @@ module _ (ring : Ring) (r : Report) (buffer : List ℕ) where
   unfolding stepReply
   step-refused e = rw (ne-eqb refusal 0 (λ z. contra (zero-served refusal z) (rw step-outcome at e)))
 
-pub start-served : (n : ℕ) (buffer : List ℕ) → isServed (startReply n buffer) ≡ true → startReply n buffer ≡ servedReply (blankRing n) allFit buffer
-unfolding startReply refusedReply
+pub start-served : (n : ℕ) (buffer : List ℕ) → isServed (startReply n buffer) ≡ true → startReply n buffer ≡ servedReply (blankRing n) buffer
+unfolding startReply refusedReply refusedAnswer
 start-served n buffer e = go (dec-eq (startRefusal n (length buffer)) 0)
   where
-    go : (startRefusal n (length buffer) ≡ 0) ⊎ (startRefusal n (length buffer) ≢ 0) → startReply n buffer ≡ servedReply (blankRing n) allFit buffer
+    go : (startRefusal n (length buffer) ≡ 0) ⊎ (startRefusal n (length buffer) ≢ 0) → startReply n buffer ≡ servedReply (blankRing n) buffer
     go (inl z) = rw z
-    go (inr z) = absurd (z (served-zero (startRefusal n (length buffer)) (rw (ne-eqb (startRefusal n (length buffer)) 0 z) at e)))
+    go (inr z) = contra (rw (ne-eqb (startRefusal n (length buffer)) 0 z) at e) refl
 
 -- ---- a report, in the record and in the plant
 
@@ -110,21 +110,27 @@ same-effect StuckOpen = refl
 same-effect StuckClosed = refl
 
 -- the ring and the plant, ready for the phases of a step
-pub step-ready : {n : ℕ} {W : World} → Steady n W → (r : Report) → Ready n (W .ring) (nextHealth (W .ring) r) (afterWord r (W .plant))
-unfolding reported afterWord
-step-ready s r = record { size = s .size; health = λ p i. rw (same-effect (r .word), s .health p i); standing = s .standing }
+pub step-ready : {n : ℕ} {W : World} → n ≤ largest → Steady n W → (r : Report) → Ready n (told (W .ring) r) (afterWord r (W .plant))
+unfolding told reported afterWord
+step-ready {W = W} small s r = record {
+  size = s .size;
+  health = λ p i. health-places (reported (healthOf (W .ring .health)) r) p (i .0, omega (arith, i .1)) ∙ rw (same-effect (r .word), s .health p i);
+  standing = s .standing;
+}
 
 in-ring : (n : ℕ) (p : Part) → notOfRing n p ≡ false → InRing n p
 unfolding notOfRing
-in-ring n p e = let t = or-none (ltb (number p) 1) (ltb n (number p)) e in (ltb-false (number p) 1 (t .0), ltb-false n (number p) (t .1))
+in-ring n p e =
+    let t = or-none (ltb (number p) 1) (ltb (min n largest) (number p)) e in
+    (ltb-false (number p) 1 (t .0), omega (arith, ltb-false (min n largest) (number p) (t .1)))
 
-not-in-ring : (n : ℕ) (p : Part) → notOfRing n p ≡ true → InRing n p → ⊥
+not-in-ring : (n : ℕ) (p : Part) → n ≤ largest → notOfRing n p ≡ true → InRing n p → ⊥
 unfolding notOfRing
-not-in-ring n p e r = go (or-cases (ltb (number p) 1) (ltb n (number p)) e)
+not-in-ring n p small e r = go (or-cases (ltb (number p) 1) (ltb (min n largest) (number p)) e)
   where
-    go : (ltb (number p) 1 ≡ true) ⊎ (ltb n (number p) ≡ true) → ⊥
+    go : (ltb (number p) 1 ≡ true) ⊎ (ltb (min n largest) (number p) ≡ true) → ⊥
     go (inl q) = omega (arith, ltb-true (number p) 1 q, r .0)
-    go (inr q) = omega (arith, ltb-true n (number p) q, r .1)
+    go (inr q) = omega (arith, ltb-true (min n largest) (number p) q, r .1)
 
 -- refusals 6 and 7, by cases
 word-refusal : (p : Part) (w : Word) (x : ℕ)
@@ -166,10 +172,10 @@ pub data Judged (n : ℕ) (P : PlantState) (r : Report) (room : ℕ) : ℕ → T
   met : {k : ℕ} → Meets n P r room k → Judged n P r room k
   fine : InRing n (r .part) → wordRefusal (r .part) (r .word) ≡ 0 → length (sheet n (P .last) (commands n (afterWord r P .health))) ≤ room → Judged n P r room 0
 
-judge : (n : ℕ) (P : PlantState) (r : Report) (room : ℕ)
+judge : (n : ℕ) (P : PlantState) (r : Report) (room : ℕ) → n ≤ largest
     → Judged n P r room (cond (notOfRing n (r .part)) 5 (cond (eqb (wordRefusal (r .part) (r .word)) 0) (cond (tooShort room (sheet n (P .last) (commands n (afterWord r P .health)))) 8 0) (wordRefusal (r .part) (r .word))))
 unfolding tooShort
-judge n P r room = go (dec (notOfRing n (r .part))) (wordRefusal (r .part) (r .word)) refl (dec (ltb room size))
+judge n P r room small = go (dec (notOfRing n (r .part))) (wordRefusal (r .part) (r .word)) refl (dec (ltb room size))
   where
     size : ℕ
     size = length (sheet n (P .last) (commands n (afterWord r P .health)))
@@ -177,7 +183,7 @@ judge n P r room = go (dec (notOfRing n (r .part))) (wordRefusal (r .part) (r .w
     go : (notOfRing n (r .part) ≡ true) ⊎ (notOfRing n (r .part) ≡ false) → (k : ℕ) → wordRefusal (r .part) (r .word) ≡ k
         → (ltb room size ≡ true) ⊎ (ltb room size ≡ false)
         → Judged n P r room (cond (notOfRing n (r .part)) 5 (cond (eqb (wordRefusal (r .part) (r .word)) 0) (cond (ltb room size) 8 0) (wordRefusal (r .part) (r .word))))
-    go (inl p) k e t = rw p (met (no-part (not-in-ring n (r .part) p)))
+    go (inl p) k e t = rw p (met (no-part (not-in-ring n (r .part) small p)))
     go (inr p) (suc k) e t = rw (p, e, ne-eqb (suc k) 0 (λ z. omega arith)) (met (no-word (in-ring n (r .part) p) e))
     go (inr p) zero e (inl t) = rw (p, e, t) (met (no-room (in-ring n (r .part) p) e (ltb-true room size t)))
     go (inr p) zero e (inr t) = rw (p, e, t) (fine (in-ring n (r .part) p) e (ltb-false room size t))
@@ -206,8 +212,8 @@ module _ {n : ℕ} {W : World} (big : smallest ≤ n) (small : n ≤ largest) (s
   pub judged : (room : ℕ) → Judged n (W .plant) r room (stepRefusal (W .ring) r room)
   unfolding stepRefusal firstMet reportConditions afterWord
   judged room =
-      rw (steady-good s big small, word-refusal (r .part) (r .word) (cond (tooShort room (nextSheet (W .ring) (nextHealth (W .ring) r))) 8 0), sheet-is small (step-ready s r), s .size)
-      (judge n (W .plant) r room)
+      rw (steady-good s big small, word-refusal (r .part) (r .word) (cond (tooShort room (nextSheet (told (W .ring) r))) 8 0), sheet-is small (step-ready small s r), s .size)
+      (judge n (W .plant) r room small)
 
   -- a served step's report names a part of the ring and a word for it
   served-report : (buffer : List ℕ) → isServed (stepReply (W .ring) r buffer) ≡ true → InRing n (r .part) × (wordRefusal (r .part) (r .word) ≡ 0)
@@ -219,7 +225,7 @@ module _ {n : ℕ} {W : World} (big : smallest ≤ n) (small : n ≤ largest) (s
 
   -- a call is refused exactly when a numbered refusal meets it
   answered : (buffer : List ℕ) → Answered n W r buffer (stepReply (W .ring) r buffer)
-  unfolding refusedReply
+  unfolding refusedReply refusedAnswer
   answered buffer = record {
     exactly = λ k. (λ e. forth k (rw (step-outcome (W .ring) r buffer) at e), λ m. step-outcome (W .ring) r buffer ∙ back k m);
     record-kept = λ e. rw (step-refused (W .ring) r buffer e);
@@ -239,27 +245,36 @@ module _ {n : ℕ} {W : World} (big : smallest ≤ n) (small : n ≤ largest) (s
 -- ---- after every call all is steady
 
 -- the health of a ring after a report that is not refused
-module _ {n : ℕ} {W : World} (s : Steady n W) (r : Report) (inside : InRing n (r .part)) (word : wordRefusal (r .part) (r .word) ≡ 0) where
-  next-kinds : (p : Part) → InRing n p → healthOfKind p (nextHealth (W .ring) r p) ≡ true
+module _ {n : ℕ} {W : World} (small : n ≤ largest) (s : Steady n W) (r : Report) (inside : InRing n (r .part)) (word : wordRefusal (r .part) (r .word) ≡ 0) where
+  told-is : (p : Part) → InRing largest p → healthOf (told (W .ring) r .health) p ≡ reported (healthOf (W .ring .health)) r p
+  unfolding told
+  told-is p i = health-places (reported (healthOf (W .ring .health)) r) p i
+
+  told-kinds : (p : Part) → InRing n p → healthOfKind p (healthOf (told (W .ring) r .health) p) ≡ true
   unfolding reported
-  next-kinds p i = go (dec (samePart p (r .part)))
+  told-kinds p i = rw (told-is p (i .0, omega (arith, i .1))) (go (dec (samePart p (r .part))))
     where
       go : (samePart p (r .part) ≡ true) ⊎ (samePart p (r .part) ≡ false)
           → healthOfKind p (cond (samePart p (r .part)) (wordNumber (r .word)) (healthOf (W .ring .health) p)) ≡ true
       go (inl e) = rw (e, same-eq p (r .part) e) (word-of-kind (r .part) (r .word) word)
       go (inr e) = rw (e, s .health p i) (s .kinds p i)
 
-  next-above : (p : Part) → InRing largest p → n < number p → nextHealth (W .ring) r p ≡ 0
+  told-above : (p : Part) → InRing largest p → n < number p → healthOf (told (W .ring) r .health) p ≡ 0
   unfolding reported
-  next-above p i l = go (dec (samePart p (r .part)))
+  told-above p i l = told-is p i ∙ go (dec (samePart p (r .part)))
     where
       go : (samePart p (r .part) ≡ true) ⊎ (samePart p (r .part) ≡ false) → cond (samePart p (r .part)) (wordNumber (r .word)) (healthOf (W .ring .health) p) ≡ 0
       go (inl e) = absurd (omega (arith, ap number (same-eq p (r .part) e), inside .1))
       go (inr e) = rw e (s .above p i l .0)
 
-pub start-ready : (n : ℕ) → n ≤ largest → Ready n (blankRing n) allFit freshPlant
+-- every part of a blank ring is fit
+blank-fit : (n : ℕ) (p : Part) → InRing largest p → healthOf (blankRing n .health) p ≡ 0
 unfolding blankRing
-start-ready n small = record { size = refl; health = λ p i. refl; standing = λ p i. command-places allOff p (i .0, omega (arith, i .1)) }
+blank-fit n p i = health-places allFit p i
+
+pub start-ready : (n : ℕ) → n ≤ largest → Ready n (blankRing n) freshPlant
+unfolding blankRing
+start-ready n small = record { size = refl; health = λ p i. health-places allFit p (i .0, omega (arith, i .1)); standing = λ p i. command-places allOff p (i .0, omega (arith, i .1)) }
 
 -- what a buffer decodes to is one thing
 same-phases : {o : Option Phases} {x y : Phases} → o ≡ some x → o ≡ some y → x ≡ y
@@ -269,7 +284,7 @@ module _ (n : ℕ) (buffer : List ℕ) (big : smallest ≤ n) (small : n ≤ lar
   pub start-steady : {ph : Phases} {Q : PlantState} → isServed (startReply n buffer) ≡ true → decode n (startReply n buffer .buffer) ≡ some ph → Performed ph freshPlant Q
       → Steady n (record { plant = Q; ring = startReply n buffer .answer .ring; shown = startReply n buffer .answer .choices })
   start-steady {ph} {Q} e d q = rw (start-served n buffer e)
-      (transition-steady small (start-ready n small) (λ p i. fit-of-kind p) (λ p i l. refl) buffer
+      (transition-steady small (start-ready n small) (λ p i. rw (blank-fit n p (i .0, omega (arith, i .1))) (fit-of-kind p)) (λ p i l. blank-fit n p i) buffer
       (rw (same-phases (rw (start-served n buffer e) at d) (served-decodes small (start-ready n small) buffer)) at q))
 
   pub step-steady : {W : World} {ph : Phases} {Q : PlantState} → Steady n W → (r : Report) (lending : List ℕ) → isServed (stepReply (W .ring) r lending) ≡ true
@@ -279,11 +294,11 @@ module _ (n : ℕ) (buffer : List ℕ) (big : smallest ≤ n) (small : n ≤ lar
       let t = served-report big small s r lending e in
       let z = step-served (W .ring) r lending e in
       rw z
-      (transition-steady small (step-ready s r) (next-kinds s r (t .0) (t .1)) (next-above s r (t .0) (t .1)) lending
-      (rw (same-phases (rw z at d) (served-decodes small (step-ready s r) lending)) at q))
+      (transition-steady small (step-ready small s r) (told-kinds small s r (t .0) (t .1)) (told-above small s r (t .0) (t .1)) lending
+      (rw (same-phases (rw z at d) (served-decodes small (step-ready small s r) lending)) at q))
 
   pub ended-steady : {calls : Calls} {W : World} → Ended controller n buffer calls W → Steady n W
-  unfolding afterWords refusedReply
+  unfolding afterWords refusedReply refusedAnswer
   ended-steady (started e d q) = start-steady e d q
   ended-steady (served (step r lending) h e d q) = step-steady (ended-steady h) r lending e d q
   ended-steady (refused {W = W} (step r lending) h e) = rw (step-refused (W .ring) r lending e) (ended-steady h)
@@ -399,7 +414,7 @@ module _ (n : ℕ) (buffer : List ℕ) (big : smallest ≤ n) (small : n ≤ lar
 
   step-chosen : {W : World} → Steady n W → (r : Report) (lending : List ℕ) → isServed (stepReply (W .ring) r lending) ≡ true
       → AsChosen n (afterWord r (W .plant)) (stepReply (W .ring) r lending)
-  step-chosen {W} s r lending e = rw (step-served (W .ring) r lending e) (as-chosen small (step-ready s r) lending)
+  step-chosen {W} s r lending e = rw (step-served (W .ring) r lending e) (as-chosen small (step-ready small s r) lending)
 
   steady : {calls : Calls} {W : World} → Ended controller n buffer calls W → Steady n W
   steady h = ended-steady n buffer big small h
@@ -425,7 +440,7 @@ module _ (n : ℕ) (buffer : List ℕ) (big : smallest ≤ n) (small : n ≤ lar
   clash-free (between {W = W} i h) u b hb = closing-single n (W .plant .health) (W .plant .last) (λ p i c. sym (steady h .planned p i) ∙ c) b hb
   clash-free (in-call {W = W} (step r lending) {ph = ph} {rest = rest} i h e d m) u b hb =
       moment-single n (W .plant) (r ∷ []) (λ p i c. sym (steady h .planned p i) ∙ c)
-      (rw (same-phases (rw (step-served (W .ring) r lending e) at d) (served-decodes small (step-ready (steady h) r) lending)) at m) (unless (r ∷ []) rest u) b hb
+      (rw (same-phases (rw (step-served (W .ring) r lending e) at d) (served-decodes small (step-ready small (steady h) r) lending)) at m) (unless (r ∷ []) rest u) b hb
 
   holds : (calls : Calls) → Holds controller n buffer calls
   unfolding afterWords

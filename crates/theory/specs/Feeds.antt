@@ -10,13 +10,13 @@ use native.Mathlib.Omega.{arith}
 use borrow.Author.Tests.{not-true}
 use Rattle.model.specs.declared.Part.{Part}
 use Rattle.model.specs.declared.Feed.the-variants.{Dark, Fed, Clash}
-use Rattle.model.specs.Lists.{below}
-use Rattle.model.specs.Plant.{PartHealth, PartCommands, generator, generatorBreaker, busBreaker, fit, stuckOpen, stuckClosed, closed, up, Leads, connected}
-use Rattle.model.specs.Plant.{busBreakerClosed, running, feeds, feeders, feedBy, busFeed}
+use Rattle.model.specs.Lists.{below, _∈_, more}
+use Rattle.model.specs.Plant.{PartHealth, PartCommands, generator, generatorBreaker, busBreaker, stuckOpen, stuckClosed, closed, up, Leads, connected}
+use Rattle.model.specs.Plant.{busBreakerClosed, fitGenerator, running, feeds, feeders, feedBy, busFeed, Reaches}
 use Rattle.model.specs.Priority.{Path, pathParts}
 use Rattle.model.specs.Choosing.{onPaths, countedClosed, choose, addPath, chosen, plan, commands}
 use Rattle.model.specs.Laws.Tests.{contra, not-of, and-left, and-right, and-intro, or-cases, or-left, or-right, dec, dec-eq}
-use Rattle.model.specs.Laws.Lists.{_∈_, below-in, below-lt, keep-at, keep-in, Rising, more, rising-below, rising-keep, none-some}
+use Rattle.model.specs.Laws.Lists.{below-in, below-lt, keep-at, keep-in, Rising, rising-below, rising-keep, none-some}
 use Rattle.theory.specs.Connected.{Arc, connected-leads, leads-connected, leads-mono, leads-trans, leads-sym, arc-leads, leads-arcs}
 use Rattle.theory.specs.Paths.{Ends, Uses, pathTo, path-in, generator-on, source-on, breaker-on}
 use Rattle.theory.specs.Choosing.{on-at, on-in, Usable, Safe, counted-in, counted-usable, safe-chosen}
@@ -83,7 +83,7 @@ module _ (n : ℕ) (H : PartHealth) (C : PartCommands) (b : ℕ) where
 -- ---- what it takes to feed
 
 pub record Feeding (n : ℕ) (H : PartHealth) (C : PartCommands) (b g : ℕ) : Type 0 where
-  pub runs : fit (H (generator g)) ≡ true
+  pub runs : fitGenerator H g ≡ true
   pub on : C (generator g) ≡ true
   pub breaker : closed (H (generatorBreaker g)) (C (generatorBreaker g)) ≡ true
   pub line : Leads n (busBreakerClosed H C) g b
@@ -98,8 +98,8 @@ module _ {n : ℕ} {H : PartHealth} {C : PartCommands} {b g : ℕ} where
       let rk : R && K ≡ true = and-left (R && K) J e in
       let r : R ≡ true = and-left R K rk in
       record {
-        runs = and-left (fit (H (generator g))) (C (generator g)) r;
-        on = and-right (fit (H (generator g))) (C (generator g)) r;
+        runs = and-left (fitGenerator H g) (C (generator g)) r;
+        on = and-right (fitGenerator H g) (C (generator g)) r;
         breaker = and-right R K rk;
         line = connected-leads hg hb (and-right (R && K) J e);
       }
@@ -109,7 +109,7 @@ module _ {n : ℕ} {H : PartHealth} {C : PartCommands} {b g : ℕ} where
   feeds-of hg hb f =
       let R = running H C g in
       let K = closed (H (generatorBreaker g)) (C (generatorBreaker g)) in
-      and-intro (R && K) _ (and-intro R K (and-intro (fit (H (generator g))) (C (generator g)) (f .runs) (f .on)) (f .breaker)) (leads-connected hg hb (f .line))
+      and-intro (R && K) _ (and-intro R K (and-intro (fitGenerator H g) (C (generator g)) (f .runs) (f .on)) (f .breaker)) (leads-connected hg hb (f .line))
 
 -- ---- what stands, and what stood: fewer fit and commanded parts feed less
 
@@ -126,7 +126,7 @@ closed-by h c p q = or-right (stuckClosed h) _ (rw (p, q))
 
 -- every generator that runs, and every breaker that is closed, by H and C is so by K and D
 pub record Less (n : ℕ) (H : PartHealth) (C : PartCommands) (K : PartHealth) (D : PartCommands) : Type 0 where
-  pub runs : (g : ℕ) → g < n → fit (H (generator g)) ≡ true → C (generator g) ≡ true → (fit (K (generator g)) ≡ true) × (D (generator g) ≡ true)
+  pub runs : (g : ℕ) → g < n → fitGenerator H g ≡ true → C (generator g) ≡ true → (fitGenerator K g ≡ true) × (D (generator g) ≡ true)
   pub breaker : (g : ℕ) → g < n → closed (H (generatorBreaker g)) (C (generatorBreaker g)) ≡ true → closed (K (generatorBreaker g)) (D (generatorBreaker g)) ≡ true
   pub line : (i : ℕ) → i < n → closed (H (busBreaker i)) (C (busBreaker i)) ≡ true → closed (K (busBreaker i)) (D (busBreaker i)) ≡ true
 
@@ -276,13 +276,6 @@ module _ (n : ℕ) (H : PartHealth) where
       go g hg (inr f) = f
 
 -- ---- a run of breakers, none stuck open
-
--- "no fit generator has a run of breakers to it, none stuck open": generator g could feed bus b
-pub record Reaches (n : ℕ) (H : PartHealth) (b g : ℕ) : Type 0 where
-  pub inside : g < n
-  pub runs : fit (H (generator g)) ≡ true
-  pub breaker : stuckOpen (H (generatorBreaker g)) ≡ false
-  pub line : Leads n (λ i. not (stuckOpen (H (busBreaker i)))) g b
 
 -- the same as a usable path in one of the two directions
 pub reaches-usable : {n : ℕ} {H : PartHealth} {b g : ℕ} → b < n → Reaches n H b g → (r : Bool) × Usable n H (pathTo b g r)

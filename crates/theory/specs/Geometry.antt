@@ -9,7 +9,7 @@ use lib.Dec.{leb, eqb}
 use borrow.Author.Tests.{leb-true, leb-false, eqb-true, eqb-false}
 use Rattle.model.specs.Plant.{next, up, arc}
 use Rattle.model.specs.Laws.Tests.{dec-eq, dec-lt}
-use Rattle.model.specs.Laws.Lists.{_∈_}
+use Rattle.model.specs.Lists.{_∈_}
 
 -- what `up` and `next` are, by cases
 pub data Up (n a b : ℕ) : Type 0 where

@@ -6,10 +6,10 @@ use mathlib.Core.Logic.{_⊎_, inl, inr}
 use Prim.Native.Nat.{ℕ, _<_}
 use native.Mathlib.Omega.{arith}
 use Rattle.model.specs.declared.Part.{Part}
-use Rattle.model.specs.Plant.{PartHealth, PartCommands, generator, generatorBreaker, busBreaker, fit, stuckOpen, stuckClosed, closed}
+use Rattle.model.specs.Plant.{PartHealth, PartCommands, generator, generatorBreaker, busBreaker, fitGenerator, stuckOpen, stuckClosed, closed, InRing}
 use Rattle.model.specs.Choosing.{chosen, commands}
 use Rattle.model.specs.Laws.Tests.{or-left}
-use Rattle.model.specs.Laws.Parts.{InRing, at-index}
+use Rattle.model.specs.Laws.Parts.{at-index}
 use Rattle.theory.specs.Paths.{generator-on, generator-breaker-on, bus-breaker-on, path-at}
 use Rattle.theory.specs.Choosing.{Safe, safe-chosen}
 use Rattle.theory.specs.Feeds.{Single, Less, single, single-less, closed-case, closed-by, commanded-at}
@@ -23,7 +23,7 @@ module _ (n : ℕ) (H : PartHealth) where
   safe : Safe n H (chosen n H n)
   safe = safe-chosen n H n (omega arith)
 
-  pub on-fit : (g : ℕ) → commands n H (generator g) ≡ true → fit (H (generator g)) ≡ true
+  pub on-fit : (g : ℕ) → commands n H (generator g) ≡ true → fitGenerator H g ≡ true
   on-fit g e = let t = commanded-at n H (generator g) e in rw (generator-on n (t .0) g (t .2)) (safe .usables (t .0) (t .1) .runs)
 
   breaker-free : (g : ℕ) → commands n H (generatorBreaker g) ≡ true → stuckOpen (H (generatorBreaker g)) ≡ false

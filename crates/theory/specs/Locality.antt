@@ -9,15 +9,15 @@ use borrow.Author.Tests.{ltb-true}
 use Rattle.model.specs.declared.Part.{Part}
 use Rattle.model.specs.declared.Choice.the-variants.{Dark}
 use Rattle.model.specs.declared.BusChoice.{BusChoice}
-use Rattle.model.specs.Lists.{below}
-use Rattle.model.specs.Plant.{PartHealth, PartCommands, largest, parts, generator, generatorBreaker, busBreaker, fit, stuckOpen, closed, busBreakerClosed}
+use Rattle.model.specs.Lists.{below, _∈_}
+use Rattle.model.specs.Plant.{PartHealth, PartCommands, largest, parts, generator, generatorBreaker, busBreaker, fit, stuckOpen, closed, busBreakerClosed, InRing}
 use Rattle.model.specs.Plant.{running, feeds, feeders, feedBy, busFeed}
 use Rattle.model.specs.Priority.{Path, pathBreakers, paths}
 use Rattle.model.specs.Choosing.{usable, countedClosed, isolated, permitted, choose, chosen, plan, commands, choiceOf, choices}
 use Rattle.model.specs.Sheet.{opening, closing, sheet}
-use Rattle.model.specs.Laws.Lists.{_∈_, all-cons, all-ext, first-ext, keep-ext, map-ext, below-lt}
+use Rattle.model.specs.Laws.Lists.{all-cons, all-ext, first-ext, keep-ext, map-ext, below-lt}
 use Rattle.model.specs.Reports.{healthOf, healthPlaces, commandsOf, commandPlaces}
-use Rattle.model.specs.Laws.Parts.{InRing, at-index, parts-at, health-places, command-places}
+use Rattle.model.specs.Laws.Parts.{at-index, parts-at, health-places, command-places}
 use Rattle.theory.specs.Connected.{connected-ext}
 use Rattle.theory.specs.Paths.{Ends, path-in-ring, breakers-on, tried-at}
 use Rattle.theory.specs.Choosing.{safe-chosen}

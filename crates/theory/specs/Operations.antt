@@ -12,11 +12,12 @@ use lib.Seq.{take-at, drop-at}
 use borrow.Author.Tests.{le-leb, not-true}
 use Rattle.model.specs.declared.Part.{Part}
 use Rattle.model.specs.Values.{partCode, samePart}
-use Rattle.model.specs.Plant.{PartCommands, largest, parts}
+use Rattle.model.specs.Plant.{PartCommands, largest, parts, InRing}
 use Rattle.model.specs.Sheet.{opening, closing, sheetOf, written}
 use Rattle.model.specs.Laws.Tests.{contra, dec, and-left, and-right, and-intro, not-of}
-use Rattle.model.specs.Laws.Lists.{_∈_, map-at, keep-at, keep-in}
-use Rattle.model.specs.Laws.Parts.{InRing, parts-in, parts-at, same-eq, same-refl}
+use Rattle.model.specs.Lists.{_∈_}
+use Rattle.model.specs.Laws.Lists.{map-at, keep-at, keep-in}
+use Rattle.model.specs.Laws.Parts.{parts-in, parts-at, same-eq, same-refl}
 use Rattle.model.specs.Laws.Reports.{named-code}
 use Rattle.theory.specs.Demand3.{PlantState, Operation, operation, perform, performAll, commandNamed, withOperation, operations, phasesAt, decode}
 

@@ -9,12 +9,11 @@ use native.Mathlib.Omega.{arith}
 use lib.Dec.{leb, eqb}
 use borrow.Author.Tests.{leb-true, le-leb, eqb-true, ne-eqb}
 use Rattle.model.specs.declared.Part.{Part}
-use Rattle.model.specs.Lists.{below, keep}
-use Rattle.model.specs.Plant.{generator, generatorBreaker, busBreaker, up, arc}
+use Rattle.model.specs.Lists.{below, keep, _∈_}
+use Rattle.model.specs.Plant.{generator, generatorBreaker, busBreaker, up, arc, InRing}
 use Rattle.model.specs.Priority.{Path, others, sources, pathBusBreakers, pathBreakers, pathParts, highRises, pathsFrom, paths}
 use Rattle.model.specs.Laws.Tests.{dec, dec-eq, not-of}
-use Rattle.model.specs.Laws.Lists.{_∈_, below-in, below-lt, keep-in, keep-at, map-in, map-at, flat-in, flat-at}
-use Rattle.model.specs.Laws.Parts.{InRing}
+use Rattle.model.specs.Laws.Lists.{below-in, below-lt, keep-in, keep-at, map-in, map-at, flat-in, flat-at}
 use Rattle.theory.specs.Geometry.{arc-at, arc-in}
 
 -- ---- what is on a path

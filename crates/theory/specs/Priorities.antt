@@ -9,10 +9,10 @@ use native.Mathlib.Omega.{arith}
 use lib.Dec.{leb, eqb}
 use lib.ListN.{length, length-append}
 use borrow.Author.Tests.{eq-eqb, ne-eqb, not-true}
-use Rattle.model.specs.Lists.{below, keep}
+use Rattle.model.specs.Lists.{below, keep, _∈_, RisingBy, more, empty}
 use Rattle.model.specs.Priority.{Path, others, sources, highRises, pathsFrom, paths}
 use Rattle.model.specs.Laws.Tests.{contra, dec, dec-eq}
-use Rattle.model.specs.Laws.Lists.{_∈_, below-in, below-lt, below-length, keep-at, flat-at, RisingBy, empty, more, rising-below, rising-keep}
+use Rattle.model.specs.Laws.Lists.{below-in, below-lt, below-length, keep-at, flat-at, rising-below, rising-keep}
 use Rattle.theory.specs.Paths.{sources-in, sources-at, others-at, from-at}
 use Rattle.theory.specs.Demand2 as d2
 use Rattle.theory.specs.Demand2.{Distinct, Priorities}

@@ -14,20 +14,20 @@ use Rattle.model.specs.declared.Word.{Word}
 use Rattle.model.specs.declared.Word.the-variants.{StuckOff, StuckOpen, StuckClosed}
 use Rattle.model.specs.declared.Report.{Report}
 use Rattle.model.specs.declared.Ring.{Ring}
-use Rattle.model.specs.Lists.{anyOf}
+use Rattle.model.specs.Lists.{anyOf, _∈_}
 use Rattle.model.specs.Values.{number, samePart, wordNumber, outcomeOf}
-use Rattle.model.specs.Plant.{PartHealth, PartCommands, smallest, largest, parts, fit, stuckOff, stuckOpen, stuckClosed, healthOfKind, generator}
+use Rattle.model.specs.Plant.{PartHealth, PartCommands, smallest, largest, parts, fit, stuckOff, stuckOpen, stuckClosed, healthOfKind, generator, InRing}
 use Rattle.model.specs.Plant.{generatorBreaker, busBreaker}
 use Rattle.model.specs.Choosing.{commands, choices}
 use Rattle.model.specs.Sheet.{sheet}
-use Rattle.model.specs.Reports.{reported, allFit, places, healthOf, commandsOf, healthPlaces, commandPlaces, blankRing, withPlan}
-use Rattle.model.specs.Refusals.{sizeOutside, healthOutside, activeAbove, unplanned, badRecord, nextHealth, startRefusal, firstMet, tooShort, nextSheet}
-use Rattle.model.specs.Answers.{Reply, servedReply, refusedReply, startReply, stepReply}
+use Rattle.model.specs.Reports.{reported, allFit, places, healthOf, commandsOf, healthPlaces, commandPlaces, blankRing, told, planned, withPlan}
+use Rattle.model.specs.Refusals.{sizeOutside, healthOutside, activeAbove, unplanned, badRecord, startRefusal, firstMet, tooShort, nextSheet}
+use Rattle.model.specs.Answers.{Reply, servedAnswer, servedReply, refusedAnswer, refusedReply, startReply, stepReply}
 use Rattle.model.specs.Laws.Tests.{contra, dec, dec-lt, or-none, or-cases}
-use Rattle.model.specs.Laws.Lists.{_∈_, any-in, any-none}
-use Rattle.model.specs.Laws.Parts.{InRing, at-index, parts-in, parts-at, same-eq, same-refl, is-places, places-ext, health-places}
+use Rattle.model.specs.Laws.Lists.{any-in, any-none}
+use Rattle.model.specs.Laws.Parts.{at-index, parts-in, parts-at, same-eq, same-refl, is-places, places-ext, health-places}
 use Rattle.model.specs.Laws.Sheet.{sheet-fits}
-use Rattle.theory.specs.Locality.{Agree, commands-ext}
+use Rattle.theory.specs.Locality.{Agree, commands-ext, commands-held}
 use Rattle.theory.specs.Demand3.{afterWord, performed, World, isServed, wordRefusal, no-part, no-word, no-room}
 use Rattle.theory.specs.Steady.{not-commanded, Steady, served-decodes, steady-good}
 use Rattle.theory.specs.Demand3Holds.{step-outcome, step-served, step-refused, start-served, zero-served, step-ready, start-ready, Judged, met, fine}
@@ -46,12 +46,12 @@ Stands ring = (n : ℕ) × (W : World) × (smallest ≤ n) × (n ≤ largest) ×
 
 -- one step more, served or refused
 step-stands : {n : ℕ} {W : World} → smallest ≤ n → n ≤ largest → Steady n W → (r : Report) (buffer : List ℕ) → Stands (stepReply (W .ring) r buffer .answer .ring)
-unfolding Stands refusedReply
+unfolding Stands refusedReply refusedAnswer
 step-stands {n} {W} big small s r buffer = go (dec (isServed (stepReply (W .ring) r buffer)))
   where
     go : (isServed (stepReply (W .ring) r buffer) ≡ true) ⊎ (isServed (stepReply (W .ring) r buffer) ≡ false) → Stands (stepReply (W .ring) r buffer .answer .ring)
     go (inl e) =
-        let d = served-decodes small (step-ready s r) buffer in
+        let d = served-decodes small (step-ready small s r) buffer in
         (n, _, big, small, step-steady n buffer big small s r buffer e (rw (← step-served (W .ring) r buffer e) at d) (performed (Permᴰ·refl _) (Permᴰ·refl _)), refl)
     go (inr e) = (n, W, big, small, s, rw (step-refused (W .ring) r buffer e))
 
@@ -103,8 +103,8 @@ unfolding room
 room-length = length-replicate {A = ℕ} 122 0
 
 served-step : {n : ℕ} {W : World} → smallest ≤ n → n ≤ largest → Steady n W → (r : Report) → InRing n (r .part) → wordRefusal (r .part) (r .word) ≡ 0
-    → stepReply (W .ring) r room .answer .ring ≡ withPlan (W .ring) (nextHealth (W .ring) r)
-unfolding servedReply
+    → stepReply (W .ring) r room .answer .ring ≡ withPlan (told (W .ring) r)
+unfolding servedReply servedAnswer
 served-step {n} {W} big small s r i w =
     ap (λ (x : Reply). x .answer .ring)
     (step-served (W .ring) r room (rw (step-outcome (W .ring) r room) (zero-served (refusal (W .ring) r room) (go (judged big small s r (length room))))))
@@ -146,14 +146,16 @@ unfolding blankRing
 blank-size n = refl
 
 start-begun : (n : ℕ) → smallest ≤ n → n ≤ largest → isServed (startReply n room) ≡ true
-unfolding startReply servedReply startRefusal firstMet sizeOutside tooShort nextSheet outcomeOf
+unfolding startReply servedReply servedAnswer startRefusal firstMet sizeOutside tooShort nextSheet
 start-begun n big small =
-    let fits = sheet-fits (blankRing n .n) (commandsOf (blankRing n .commands)) (commands (blankRing n .n) allFit) (omega (arith, blank-size n)) in
-    rw (le-ltb n smallest big, le-ltb largest n small, le-ltb (length room) (length (sheet (blankRing n .n) (commandsOf (blankRing n .commands)) (commands (blankRing n .n) allFit))) (omega (arith, room-length)))
+    let fits = sheet-fits (blankRing n .n) (commandsOf (blankRing n .commands)) (planned (blankRing n)) (omega (arith, blank-size n)) in
+    rw (le-ltb n smallest big, le-ltb largest n small, le-ltb (length room) (length (sheet (blankRing n .n) (commandsOf (blankRing n .commands)) (planned (blankRing n)))) (omega (arith, room-length)))
 
 start-made : (n : ℕ) → smallest ≤ n → n ≤ largest → Made (ringFor n allFit)
-unfolding ringFor servedReply withPlan blankRing
-start-made n big small = let begun = start-begun n big small in rw (ap (λ (x : Reply). x .answer .ring) (start-served n room begun)) at (started n room big small begun)
+unfolding ringFor servedReply servedAnswer withPlan planned blankRing
+start-made n big small =
+    let begun = start-begun n big small in
+    rw (ap (λ (x : Reply). x .answer .ring) (start-served n room begun), commands-held n small allFit) at (started n room big small begun)
 
 module _ (n : ℕ) (big : smallest ≤ n) (small : n ≤ largest) (H : PartHealth) (kinds : (p : Part) → InRing n p → healthOfKind p (H p) ≡ true) where
   -- the health H of the parts ps, all others fit
@@ -175,10 +177,11 @@ module _ (n : ℕ) (big : smallest ≤ n) (small : n ≤ largest) (H : PartHealt
 
   -- one report more
   add : (p : Part) (ps : List Part) (w : Word) → wordNumber w ≡ H p
-      → withPlan (ringFor n (partial ps)) (nextHealth (ringFor n (partial ps)) (record { part = p; word = w })) ≡ ringFor n (partial (p ∷ ps))
-  unfolding withPlan ringFor reported partial anyOf
+      → withPlan (told (ringFor n (partial ps)) (record { part = p; word = w })) ≡ ringFor n (partial (p ∷ ps))
+  unfolding withPlan told planned ringFor reported partial anyOf
   add p ps w e =
-      ring-ext n (reported (healthOf (healthPlaces (partial ps))) (record { part = p; word = w })) (partial (p ∷ ps)) small (λ q i. go q i (dec (samePart q p)))
+      rw (commands-held n small (reported (healthOf (healthPlaces (partial ps))) (record { part = p; word = w })))
+      (ring-ext n (reported (healthOf (healthPlaces (partial ps))) (record { part = p; word = w })) (partial (p ∷ ps)) small (λ q i. go q i (dec (samePart q p))))
     where
       go : (q : Part) → InRing largest q → (samePart q p ≡ true) ⊎ (samePart q p ≡ false)
           → cond (samePart q p) (wordNumber w) (healthOf (healthPlaces (partial ps)) q) ≡ cond (samePart q p || anyOf (samePart q) ps) (H q) 0

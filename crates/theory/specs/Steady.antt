@@ -12,17 +12,17 @@ use borrow.Author.Tests.{le-ltb, lt-ltb}
 use Rattle.model.specs.declared.Part.{Part}
 use Rattle.model.specs.declared.Part.the-variants.{Generator, GeneratorBreaker, BusBreaker}
 use Rattle.model.specs.declared.Ring.{Ring}
-use Rattle.model.specs.Lists.{anyOf}
+use Rattle.model.specs.Lists.{anyOf, _∈_}
 use Rattle.model.specs.Values.{number}
-use Rattle.model.specs.Plant.{PartHealth, PartCommands, smallest, largest, parts, fit, healthOfKind}
+use Rattle.model.specs.Plant.{PartHealth, PartCommands, smallest, largest, parts, fit, healthOfKind, InRing}
 use Rattle.model.specs.Choosing.{commands, choices}
 use Rattle.model.specs.Sheet.{opening, closing, sheet}
-use Rattle.model.specs.Reports.{healthOf, commandsOf, withPlan}
+use Rattle.model.specs.Reports.{healthOf, commandsOf, planned, withPlan}
 use Rattle.model.specs.Refusals.{sizeOutside, healthOutside, activeAbove, unplanned, badRecord, nextSheet}
-use Rattle.model.specs.Answers.{servedReply}
+use Rattle.model.specs.Answers.{servedAnswer, servedReply}
 use Rattle.model.specs.Laws.Tests.{contra, dec, dec-lt}
-use Rattle.model.specs.Laws.Lists.{_∈_, any-false, map-in}
-use Rattle.model.specs.Laws.Parts.{InRing, parts-at, health-places, command-places}
+use Rattle.model.specs.Laws.Lists.{any-false, map-in}
+use Rattle.model.specs.Laws.Parts.{parts-at, command-places}
 use Rattle.theory.specs.Locality.{Agree, choices-ext, commands-ext, commanded-in-ring, sheet-ext}
 use Rattle.theory.specs.Interruption.{Fewer}
 use Rattle.theory.specs.Demand3.{PlantState, Operation, operation, performAll, Phases, decode, Performed, performed, World, AsChosen}
@@ -104,10 +104,10 @@ module _ (n : ℕ) (P : PlantState) (N : PartCommands) where
 
 -- ---- a transition
 
--- a ring of n and a plant whose parts have the health H that the ring is taken to, and the ring's commands
-pub record Ready (n : ℕ) (ring : Ring) (H : PartHealth) (P : PlantState) : Type 0 where
+-- a ring of n, told its reports, and a plant whose parts have its health and its commands
+pub record Ready (n : ℕ) (ring : Ring) (P : PlantState) : Type 0 where
   pub size : ring .n ≡ n
-  pub health : Agree n H (P .health)
+  pub health : Agree n (healthOf (ring .health)) (P .health)
   pub standing : Agree n (commandsOf (ring .commands)) (P .last)
 
 -- document 01's phases for a plant
@@ -117,26 +117,29 @@ phasesOf n P = record {
   second = map (operation true) (closing n (P .last) (commands n (P .health)));
 }
 
-module _ {n : ℕ} {ring : Ring} {H : PartHealth} {P : PlantState} (small : n ≤ largest) (ready : Ready n ring H P) where
-  news : Agree n (commands n H) (commands n (P .health))
-  news p r = commands-ext n H (P .health) (ready .health) p
+module _ {n : ℕ} {ring : Ring} {P : PlantState} (small : n ≤ largest) (ready : Ready n ring P) where
+  abbrev T : PartHealth
+  T = healthOf (ring .health)
 
-  pub sheet-is : nextSheet ring H ≡ sheet n (P .last) (commands n (P .health))
-  unfolding nextSheet
-  sheet-is = rw (ready .size) (sheet-ext n (commandsOf (ring .commands)) (P .last) (commands n H) (commands n (P .health)) (ready .standing) news)
+  news : Agree n (commands n T) (commands n (P .health))
+  news p r = commands-ext n T (P .health) (ready .health) p
 
-  pub served-decodes : (buffer : List ℕ) → decode n (servedReply ring H buffer .buffer) ≡ some (phasesOf n P)
+  pub sheet-is : nextSheet ring ≡ sheet n (P .last) (commands n (P .health))
+  unfolding nextSheet planned
+  sheet-is = rw (ready .size) (sheet-ext n (commandsOf (ring .commands)) (P .last) (commands n T) (commands n (P .health)) (ready .standing) news)
+
+  pub served-decodes : (buffer : List ℕ) → decode n (servedReply ring buffer .buffer) ≡ some (phasesOf n P)
   unfolding servedReply phasesOf sheet
   served-decodes buffer = rw sheet-is
       (decode-sheet n small (opening n (P .last) (commands n (P .health))) (closing n (P .last) (commands n (P .health)))
       (λ p m. opening-at n (P .last) (commands n (P .health)) p m .0) (λ p m. closing-at n (P .last) (commands n (P .health)) p m .0) buffer)
 
-  served-choices : (buffer : List ℕ) → servedReply ring H buffer .answer .choices ≡ choices n (P .health)
-  unfolding servedReply
-  served-choices buffer = rw (ready .size) (choices-ext n H (P .health) (ready .health))
+  served-choices : (buffer : List ℕ) → servedReply ring buffer .answer .choices ≡ choices n (P .health)
+  unfolding servedReply servedAnswer
+  served-choices buffer = rw (ready .size) (choices-ext n T (P .health) (ready .health))
 
   -- the answer's choices and phases are document 01's for the plant
-  pub as-chosen : (buffer : List ℕ) → AsChosen n P (servedReply ring H buffer)
+  pub as-chosen : (buffer : List ℕ) → AsChosen n P (servedReply ring buffer)
   unfolding phasesOf
   as-chosen buffer = record { choices-are = served-choices buffer; phases = phasesOf n P; decodes = served-decodes buffer; first-is = refl; second-is = refl }
 
@@ -160,16 +163,17 @@ not-commanded n H p l = go (dec (commands n H p))
     go (inr e) = e
 
 -- after a transition all is steady
-pub transition-steady : {n : ℕ} {ring : Ring} {H : PartHealth} {P Q : PlantState} → n ≤ largest → Ready n ring H P
-    → ((p : Part) → InRing n p → healthOfKind p (H p) ≡ true) → ((p : Part) → InRing largest p → n < number p → H p ≡ 0)
+pub transition-steady : {n : ℕ} {ring : Ring} {P Q : PlantState} → n ≤ largest → Ready n ring P
+    → ((p : Part) → InRing n p → healthOfKind p (healthOf (ring .health) p) ≡ true)
+    → ((p : Part) → InRing largest p → n < number p → healthOf (ring .health) p ≡ 0)
     → (buffer : List ℕ) → Performed (phasesOf n P) P Q
-    → Steady n (record { plant = Q; ring = servedReply ring H buffer .answer .ring; shown = servedReply ring H buffer .answer .choices })
-unfolding servedReply withPlan phasesOf
-transition-steady {n} {ring} {H} {P} small ready kinds above buffer (performed {xs = xs} {ys = ys} dx dy) = record {
+    → Steady n (record { plant = Q; ring = servedReply ring buffer .answer .ring; shown = servedReply ring buffer .answer .choices })
+unfolding servedReply servedAnswer withPlan planned phasesOf
+transition-steady {n} {ring} {P} small ready kinds above buffer (performed {xs = xs} {ys = ys} dx dy) = record {
   size = ready .size;
-  health = λ p r. health-places H p (wide p r) ∙ ready .health p r ∙ kept p;
-  standing = λ p r. command-places (commands (ring .n) H) p (wide p r) ∙ new p ∙ sym (both-done n P (commands n (P .health)) xs ys dx dy p r);
-  above = λ p r l. (health-places H p r ∙ above p r l, command-places (commands (ring .n) H) p r ∙ new p ∙ not-commanded n (P .health) p l);
+  health = λ p r. ready .health p r ∙ kept p;
+  standing = λ p r. command-places (planned ring) p (wide p r) ∙ new p ∙ sym (both-done n P (commands n (P .health)) xs ys dx dy p r);
+  above = λ p r l. (above p r l, command-places (planned ring) p r ∙ new p ∙ not-commanded n (P .health) p l);
   kinds = λ p r. rw (← ready .health p r ∙ kept p) (kinds p r);
   planned = λ p r. both-done n P (commands n (P .health)) xs ys dx dy p r ∙ ap (λ K. commands n K p) (sym same-health);
   shown = served-choices small ready buffer ∙ ap (choices n) (sym same-health);
@@ -184,8 +188,8 @@ transition-steady {n} {ring} {H} {P} small ready kinds above buffer (performed {
     wide : (p : Part) → InRing n p → InRing largest p
     wide p r = (r .0, omega (arith, r .1))
 
-    new : (p : Part) → commands (ring .n) H p ≡ commands n (P .health) p
-    new p = rw (ready .size) (commands-ext n H (P .health) (ready .health) p)
+    new : (p : Part) → planned ring p ≡ commands n (P .health) p
+    new p = rw (ready .size) (commands-ext n (healthOf (ring .health)) (P .health) (ready .health) p)
 
 -- ---- a steady record meets no condition of refusal 9
 

@@ -18,22 +18,22 @@ use Rattle.model.specs.declared.Choice.{Choice}
 use Rattle.model.specs.declared.Choice.the-variants as choice
 use Rattle.model.specs.declared.Feed.{Feed}
 use Rattle.model.specs.declared.Feed.the-variants as feed
-use Rattle.model.specs.Lists.{below, keep, first, anyOf, allOf}
+use Rattle.model.specs.Lists.{below, keep, first, anyOf, allOf, _∈_, RisingBy}
 use Rattle.model.specs.Values.{samePart, partCode, outcomeOf, choiceSource, choiceLetter}
 use Rattle.model.specs.Plant.{PartHealth, PartCommands, smallest, largest, busBreaker, parts, stuckClosed, healthOfKind, next, up, arc, connected, feeds}
-use Rattle.model.specs.Plant.{feeders, feedBy, busFeed}
+use Rattle.model.specs.Plant.{feeders, feedBy, busFeed, Reaches}
 use Rattle.model.specs.Priority.{Path, others, sources, pathBusBreakers, pathBreakers, pathParts, highRises, highPath, lowPath, pathsFrom, paths}
 use Rattle.model.specs.Choosing.{onPaths, usable, countedClosed, isolated, permitted, choose, addPath, chosen, plan, commands, choiceOf, choices}
 use Rattle.model.specs.Sheet.{opening, closing, sheetOf, sheet, written}
-use Rattle.model.specs.Reports.{partNamed, reported, allFit, places, healthOf, commandsOf, healthPlaces, commandPlaces, blankRing, withPlan}
-use Rattle.model.specs.Refusals.{firstMet, nextHealth, nextSheet, sizeOutside, healthOutside, activeAbove, unplanned, badRecord, notOfRing, wordOfOtherKind}
+use Rattle.model.specs.Reports.{partNamed, reported, allFit, places, healthOf, commandsOf, healthPlaces, commandPlaces, blankRing, told, planned, withPlan}
+use Rattle.model.specs.Refusals.{firstMet, nextSheet, sizeOutside, healthOutside, activeAbove, unplanned, badRecord, notOfRing, wordOfOtherKind}
 use Rattle.model.specs.Refusals.{generatorFitAgain, tooShort, reportConditions, startRefusal, stepRefusal}
-use Rattle.model.specs.Answers.{Reply, refusedReply, servedReply, startReply, stepReply, allDark}
+use Rattle.model.specs.Answers.{Reply, refusedAnswer, refusedReply, servedAnswer, servedReply, startReply, stepReply, allDark}
 use Rattle.model.specs.Laws.Tests.{contra, dec, or-cases, and-left, and-right}
-use Rattle.model.specs.Laws.Lists.{_∈_, any-at, below-lt, none-some, first-none, RisingBy, all-at}
+use Rattle.model.specs.Laws.Lists.{any-at, below-lt, none-some, first-none, all-at}
 use Rattle.theory.specs.Paths.{Ends, tried-at}
 use Rattle.theory.specs.Choosing.{usable-at}
-use Rattle.theory.specs.Feeds.{Reaches, usable-reaches}
+use Rattle.theory.specs.Feeds.{usable-reaches}
 use Rattle.theory.specs.Demand3.{Controller, PlantState, freshPlant, afterWord, afterWords, Operation, operation, perform, performAll, Phases}
 use Rattle.theory.specs.Demand3.{commandNamed, withOperation, operations, phasesAt, decode, Call, step, Calls, nothing, _then_, whole, replyTo, words}
 use Rattle.theory.specs.Demand3.{isServed, World, performed, Ended, started, served, refused, in-first, in-second, isStuckClosed, excepted, Interrupted}
@@ -55,15 +55,16 @@ pub record Design : Type 0 where
 designCommands : Design → ℕ → PartHealth → PartCommands
 designCommands d n H = d .parts-of n (earlier (d .paths-of n H) n)
 
-designReply : Design → Ring → PartHealth → List ℕ → Reply
-designReply d ring H buffer =
+designReply : Design → Ring → List ℕ → Reply
+designReply d ring buffer =
     let n = ring .n in
+    let H = healthOf (ring .health) in
     let old = commandsOf (ring .commands) in
     let new = designCommands d n H in
     record {
       answer = record {
         outcome = outcomeOf 0;
-        ring = record { n = n; health = healthPlaces H; commands = commandPlaces new };
+        ring = record { n = n; health = ring .health; commands = commandPlaces new };
         choices = places (λ b. record { choice = cond (ltb b n) (choiceOf n (d .paths-of n H b)) choice.Dark });
       };
       buffer = written (d .sheet-of (opening n old new) (closing n old new)) buffer;
@@ -71,10 +72,10 @@ designReply d ring H buffer =
 
 designController : Design → Controller
 designController d = record {
-  start = λ n buffer. designReply d (blankRing n) allFit buffer;
+  start = λ n buffer. designReply d (blankRing n) buffer;
   step = λ ring r buffer.
       let k = firstMet (reportConditions (ring .n) r) in
-      cond (eqb k 0) (designReply d ring (nextHealth ring r) buffer) (refusedReply k ring buffer);
+      cond (eqb k 0) (designReply d (told ring r) buffer) (refusedReply k ring buffer);
 }
 
 -- the design of document 01
@@ -369,8 +370,8 @@ computed : (failsOf (case right 3 (breaker2Fit ∷ breaker2Open ∷ [])) ≡ fai
 unfolding wrongs2 wrongs failsOf designController designReply designCommands right allBusesDark givesUp emptyPhases repeatsStart onePlan miscounts closesFirst
     stuckClosedOpen breakerBehind highFirst anyFault chosenBy planBy callsOf room endTest clashTest answerTest onWorld betweenPhases answerFails sizesFail
     choiceNumber clashFails busFails isDark feedNumber isClash run afterCall worldAfter decode phasesAt operations withOperation commandNamed performAll
-    perform afterWords afterWord earlier refusedReply firstMet reportConditions notOfRing wordOfOtherKind generatorFitAgain blankRing commandPlaces
-    healthPlaces commandsOf healthOf places reported partNamed outcomeOf partCode samePart allDark written sheet sheetOf opening closing choices choiceOf
+    perform afterWords afterWord earlier refusedReply refusedAnswer firstMet reportConditions notOfRing wordOfOtherKind generatorFitAgain blankRing commandPlaces
+    healthPlaces commandsOf healthOf places reported told partNamed outcomeOf partCode samePart allDark written sheet sheetOf opening closing choices choiceOf
     commands plan chosen addPath choose permitted isolated countedClosed usable onPaths paths pathsFrom highRises pathParts pathBreakers pathBusBreakers
     sources others flatMap busFeed feedBy feeders feeds connected arc up next parts healthOfKind allOf anyOf first keep below
 computed = (refl, refl, refl, refl)
@@ -621,9 +622,9 @@ module _ (k : Case) where
 
 -- n = 3 after the start, BB1 stuck closed: before the first operation, at an excepted moment, B1 is fed by two generators
 exception-needed : (P : PlantState) × Interrupted controller 3 room (nothing then step breaker1Closed room) P true × (busFeed 3 (P .health) (P .last) 0 ≡ feed.Clash 1 2)
-unfolding stepReply stepRefusal badRecord healthOutside activeAbove unplanned excepted startReply servedReply startRefusal nextSheet tooShort withPlan
+unfolding stepReply stepRefusal badRecord healthOutside activeAbove unplanned excepted startReply servedReply servedAnswer startRefusal nextSheet tooShort withPlan planned told
     sizeOutside room run afterCall worldAfter decode phasesAt operations withOperation commandNamed performAll perform afterWords afterWord earlier
-    refusedReply firstMet reportConditions notOfRing wordOfOtherKind generatorFitAgain blankRing commandPlaces healthPlaces commandsOf healthOf places
+    refusedReply refusedAnswer firstMet reportConditions notOfRing wordOfOtherKind generatorFitAgain blankRing commandPlaces healthPlaces commandsOf healthOf places
     reported partNamed outcomeOf partCode samePart allDark written sheet sheetOf opening closing choices choiceOf commands plan chosen addPath choose
     permitted isolated countedClosed usable onPaths paths pathsFrom highRises pathParts pathBreakers pathBusBreakers sources others flatMap busFeed feedBy
     feeders feeds connected arc up next parts healthOfKind allOf anyOf first keep below

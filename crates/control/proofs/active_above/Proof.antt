@@ -6,9 +6,9 @@ use native.Mathlib.Omega.{arith}
 use borrow.Author.Needs.{needs}
 use Rattle.model.specs.declared.Part.{Part}
 use Rattle.model.specs.Values.{number}
-use Rattle.model.specs.Plant.{generator, generatorBreaker, busBreaker}
+use Rattle.model.specs.Plant.{generator, generatorBreaker, busBreaker, InRing}
 use Rattle.model.specs.Reports.{healthOf, commandsOf}
-use Rattle.model.specs.Laws.Parts.{InRing, ring-more}
+use Rattle.model.specs.Laws.Parts.{ring-more}
 use Rattle.control.specs.Records.{active, some-active, none-active}
 use Rattle.control.proofs.active_above.Statement.{statement}
 use Rattle.control.proofs.active_above.Tie as tie

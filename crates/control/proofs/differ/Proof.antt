@@ -5,9 +5,9 @@ use Prim.Native.Nat.{_≤_, _-_}
 use native.Mathlib.Omega.{arith}
 use borrow.Author.Needs.{needs}
 use Rattle.model.specs.declared.Part.{Part}
-use Rattle.model.specs.Plant.{generator, generatorBreaker, busBreaker}
+use Rattle.model.specs.Plant.{generator, generatorBreaker, busBreaker, InRing}
 use Rattle.model.specs.Reports.{commandsOf}
-use Rattle.model.specs.Laws.Parts.{InRing, ring-more}
+use Rattle.model.specs.Laws.Parts.{ring-more}
 use Rattle.model.specs.Laws.Parts.{some-part, no-part}
 use Rattle.control.specs.Records.{differs, anyDiffer}
 use Rattle.control.proofs.differ.Statement.{statement}

@@ -2,7 +2,7 @@
 use mathlib.Core.Path.{_≡_, refl, sym, _∙_, ap}
 use mathlib.Core.Bool.{Bool, true, false, _||_, or-false, or-assoc}
 use mathlib.Core.Logic.{_⊎_, inl, inr, _≢_}
-use mathlib.Core.List.{List, [], _∷_, _++_, map, flatMap, List·Memᴰ, List·Memᴰ·head, List·Memᴰ·tail, List·Memᴰ·not-nil, List·Memᴰ·cases-cons}
+use mathlib.Core.List.{List, [], _∷_, _++_, map, flatMap, List·Memᴰ·head, List·Memᴰ·tail, List·Memᴰ·not-nil, List·Memᴰ·cases-cons}
 use mathlib.Core.List.{List·Memᴰ·append-cases, List·Memᴰ·eq-of-singleton, Memᴰ·append-left, Memᴰ·append-right}
 use mathlib.Core.Option.{Option, none, some}
 use Prim.Native.Nat.{ℕ, zero, suc, _+_, _<_, _≤_}
@@ -10,14 +10,9 @@ use native.Mathlib.Numerals.{add-one}
 use native.Mathlib.Omega.{arith}
 use lib.ListN.{length, getD, length-append, List·getD-append}
 use lib.Seq.{getD-append-seam}
-use Rattle.model.specs.Lists.{below, keep, first, anyOf, allOf}
+use Rattle.model.specs.Lists.{below, keep, first, anyOf, allOf, _∈_, RisingBy, empty, more}
 use Rattle.model.specs.Laws.Tests.{contra, and-left, and-right, and-intro, or-cases, or-left, or-right, dec, dec-eq}
 
--- membership
-abbrev pub _∈_ : {A : Type 0} → A → List A → Type 0
-x ∈ xs = List·Memᴰ x xs
-
-infix 4 _∈_
 -- every member of a list with one element more
 pub all-cons : {A : Type 0} {xs : List A} {x : A} (P : A → Type 0) → P x → ((y : A) → y ∈ xs → P y) → (y : A) → y ∈ x ∷ xs → P y
 all-cons {xs = xs} {x} P p r y m = go (List·Memᴰ·cases-cons m)
@@ -266,11 +261,6 @@ module _ {A : Type 0} (f : A → Bool) where
   first-ext g (x ∷ xs) h = rw (h x (List·Memᴰ·head refl), first-ext g xs (λ y m. h y (List·Memᴰ·tail m)))
 
 -- ---- rising lists
-
--- a list whose elements rise by a measure
-pub data RisingBy {A : Type 0} (g : A → ℕ) : List A → Type 0 where
-  empty : RisingBy g []
-  more : {x : A} {xs : List A} → ((y : A) → y ∈ xs → g x < g y) → RisingBy g xs → RisingBy g (x ∷ xs)
 
 -- rising numbers
 abbrev pub Rising : List ℕ → Type 0

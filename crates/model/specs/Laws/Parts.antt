@@ -12,12 +12,12 @@ use borrow.Author.Tests.{eqb-true, eq-eqb, ne-eqb, lt-ltb, le-ltb}
 use Rattle.model.specs.declared.Part.{Part}
 use Rattle.model.specs.declared.Part.the-variants.{Generator, GeneratorBreaker, BusBreaker}
 use Rattle.model.specs.declared.Health.{Health}
-use Rattle.model.specs.Lists.{below, anyOf}
+use Rattle.model.specs.Lists.{below, anyOf, _∈_, RisingBy}
 use Rattle.model.specs.Values.{number, index, firstCode, partCode, samePart}
-use Rattle.model.specs.Plant.{PartHealth, PartCommands, largest, generator, generatorBreaker, busBreaker, parts}
+use Rattle.model.specs.Plant.{PartHealth, PartCommands, largest, generator, generatorBreaker, busBreaker, parts, InRing}
 use Rattle.model.specs.Reports.{atNumber, places, healthOf, commandsOf, healthPlaces, commandPlaces}
 use Rattle.model.specs.Laws.Tests.{and-intro, dec-eq, contra, below-other, below-last}
-use Rattle.model.specs.Laws.Lists.{_∈_, any-in, any-false, below-in, below-lt, below-length, below-at, map-in, map-at, RisingBy, rising-append}
+use Rattle.model.specs.Laws.Lists.{any-in, any-false, below-in, below-lt, below-length, below-at, map-in, map-at, rising-append}
 use Rattle.model.specs.Laws.Lists.{rising-map, rising-mono, rising-below}
 
 -- ---- one part
@@ -39,10 +39,6 @@ unfolding samePart
 same-refl p = and-intro (eqb (firstCode p) (firstCode p)) _ (eq-eqb (firstCode p) (firstCode p) refl) (eq-eqb (number p) (number p) refl)
 
 -- ---- the parts of a ring
-
--- p is a part of a ring of n
-abbrev pub InRing : ℕ → Part → Type 0
-InRing n p = (0 < number p) × (number p ≤ n)
 
 -- the part at an index below n is one
 pub at-index : (n i : ℕ) → i < n → (0 < suc i) × (suc i ≤ n)

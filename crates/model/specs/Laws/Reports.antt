@@ -13,12 +13,12 @@ use Rattle.model.specs.declared.Report.{Report}
 use Rattle.model.specs.declared.ReportAnswer.{ReportAnswer}
 use Rattle.model.specs.declared.ReportAnswer.the-variants.{Read, Refused}
 use Rattle.model.specs.Values.{partCode}
-use Rattle.model.specs.Plant.{largest, parts}
+use Rattle.model.specs.Plant.{largest, parts, InRing}
 use Rattle.model.specs.Reports.{partNamed, wordNamed}
 use Rattle.model.specs.Refusals.{firstMet, reportConditions, reportOf, reportAnswer}
 use Rattle.model.specs.Laws.Tests.{dec-eq}
 use Rattle.model.specs.Laws.Lists.{first-only, first-at}
-use Rattle.model.specs.Laws.Parts.{InRing, parts-in, parts-at, code-only}
+use Rattle.model.specs.Laws.Parts.{parts-in, parts-at, code-only}
 
 in-least : (n : ℕ) (p : Part) → n ≤ largest → InRing n p → InRing (min n largest) p
 in-least n p h r = (r .0, omega (arith, r .1))

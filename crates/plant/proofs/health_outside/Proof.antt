@@ -6,9 +6,8 @@ use native.Mathlib.Omega.{arith}
 use borrow.Author.Needs.{needs}
 use borrow.Author.Tests.{not-true, not-false}
 use Rattle.model.specs.declared.Part.{Part}
-use Rattle.model.specs.Plant.{generator, generatorBreaker, busBreaker, healthOfKind}
+use Rattle.model.specs.Plant.{generator, generatorBreaker, busBreaker, healthOfKind, InRing}
 use Rattle.model.specs.Reports.{healthOf}
-use Rattle.model.specs.Laws.Parts.{InRing}
 use Rattle.model.specs.Laws.Parts.{ring-more}
 use Rattle.plant.specs.Kinds.{some-outside, none-outside}
 use Rattle.plant.proofs.health_outside.Statement.{statement}
