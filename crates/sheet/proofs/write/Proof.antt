@@ -8,6 +8,7 @@ use lib.ListN.{length, take}
 use borrow.Author.Needs.{needs}
 use Rattle.model.specs.Sheet.{sheet, written}
 use Rattle.model.specs.Reports.{commandsOf}
+use Rattle.model.specs.Laws.Tests.{facts}
 use Rattle.model.specs.Laws.Sheet.{sheet-fits}
 use Rattle.model.specs.Laws.Appended.{appended-length, appended-front}
 use Rattle.sheet.specs.Codes.{openingCodes, closingCodes}
@@ -53,20 +54,20 @@ add-if1-2 : tie.Need-add-if1-2
 add-if1-2 c = omega (arith, counted (c .before))
 
 returns : tie.Need-returns
-returns c = let d = c .before .before in write-refused _ _ (omega (arith, counted d))
+returns c = let d = c .before .before in write-refused _ _ (omega (facts, counted d))
 
 lay-out-requires : tie.Need-lay-out-requires
 lay-out-requires c κs =
     let d = c .before .before .before .before .before in (
       appended-length (d .phases .ensures .0),
       (appended-length (d .phases .ensures .1),
-      (omega (arith, counted d), (omega (arith, counted d), omega (arith, counted d)))),
+      (omega (arith, counted d), (omega (arith, counted d), omega (facts, counted d)))),
     )
 
 returns-2 : tie.Need-returns-2
 returns-2 c =
     let d = c .before .before .before .before .before .before .before .before in
-    write-served (bytes d) (now (start d .args .buffer)) (omega (arith, counted d)) _
+    write-served (bytes d) (now (start d .args .buffer)) (omega (facts, counted d)) _
     (c .before .before .lay-out .ensures ∙ ap (λ l. written l (now (start d .args .buffer))) (made d))
 
 pub write-spec : {M : Type 1} → statement M
