@@ -48,14 +48,14 @@ fn with_word(health: Health, report: Report) -> Health
             next
         }
         Part::GeneratorBreaker(number) => {
-            let breakers = next.generator_breakers;
-            let reported = with_value(breakers, number, value);
+            let generator_breakers = next.generator_breakers;
+            let reported = with_value(generator_breakers, number, value);
             next.generator_breakers = reported;
             next
         }
         Part::BusBreaker(number) => {
-            let breakers = next.bus_breakers;
-            let reported = with_value(breakers, number, value);
+            let bus_breakers = next.bus_breakers;
+            let reported = with_value(bus_breakers, number, value);
             next.bus_breakers = reported;
             next
         }

@@ -1,4 +1,4 @@
--- `control::active_above` meets its contract. The loop's invariant: each part of the places passed above n is fit, and off or open.
+-- `records::active_above` meets its contract. The loop's invariant: each part of the places passed above n is fit, and off or open.
 use mathlib.Core.Path.{_≡_, sym, _∙_}
 use mathlib.Core.Bool.{false}
 use Prim.Native.Nat.{_≤_, _<_, _-_}
@@ -9,9 +9,9 @@ use Rattle.model.specs.Values.{number}
 use Rattle.model.specs.Plant.{generator, generatorBreaker, busBreaker, InRing}
 use Rattle.model.specs.Reports.{healthOf, commandsOf}
 use Rattle.model.specs.Laws.Parts.{ring-more}
-use Rattle.control.specs.Records.{active, some-active, none-active}
-use Rattle.control.proofs.active_above.Statement.{statement}
-use Rattle.control.proofs.active_above.Tie as tie
+use Rattle.records.specs.Records.{active, some-active, none-active}
+use Rattle.records.proofs.active_above.Statement.{statement}
+use Rattle.records.proofs.active_above.Tie as tie
 
 abbrev Inv-loop : tie.InvT-loop
 Inv-loop n health commands i₀ i = (n ≤ i) × (i ≤ 20) × ((p : Part) → InRing i p → n < number p → active (healthOf health) (commandsOf commands) p ≡ false)

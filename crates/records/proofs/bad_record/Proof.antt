@@ -1,4 +1,4 @@
--- `control::bad_record` meets its contract: the four conditions of refusal 9, in turn.
+-- `records::bad_record` meets its contract: the four conditions of refusal 9, in turn.
 use mathlib.Core.Path.{_≡_, sym, _∙_}
 use mathlib.Core.Bool.{false}
 use borrow.Author.Needs.{needs}
@@ -6,9 +6,9 @@ use Rattle.model.specs.Plant.{largest, parts}
 use Rattle.model.specs.Reports.{healthOf}
 use Rattle.model.specs.Refusals.{sizeOutside, healthOutside}
 use Rattle.model.specs.Laws.Refusals.{size-bounds}
-use Rattle.control.specs.Records.{differ-planned, bad-size, bad-health, bad-above, bad-commands}
-use Rattle.control.proofs.bad_record.Statement.{statement}
-use Rattle.control.proofs.bad_record.Tie as tie
+use Rattle.records.specs.Records.{differ-planned, bad-size, bad-health, bad-above, bad-commands}
+use Rattle.records.proofs.bad_record.Statement.{statement}
+use Rattle.records.proofs.bad_record.Tie as tie
 
 -- what a passed check says
 inside : (d : tie.Else1) → sizeOutside (d .before .before .args .ring .n) ≡ false

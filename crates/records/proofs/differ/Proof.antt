@@ -1,4 +1,4 @@
--- `control::differ` meets its contract. The loop's invariant: the parts of the places passed have the same commands.
+-- `records::differ` meets its contract. The loop's invariant: the parts of the places passed have the same commands.
 use mathlib.Core.Path.{_≡_, sym}
 use mathlib.Core.Bool.{false}
 use Prim.Native.Nat.{_≤_, _-_}
@@ -9,9 +9,9 @@ use Rattle.model.specs.Plant.{generator, generatorBreaker, busBreaker, InRing}
 use Rattle.model.specs.Reports.{commandsOf}
 use Rattle.model.specs.Laws.Parts.{ring-more}
 use Rattle.model.specs.Laws.Parts.{some-part, no-part}
-use Rattle.control.specs.Records.{differs, anyDiffer}
-use Rattle.control.proofs.differ.Statement.{statement}
-use Rattle.control.proofs.differ.Tie as tie
+use Rattle.records.specs.Records.{differs, anyDiffer}
+use Rattle.records.proofs.differ.Statement.{statement}
+use Rattle.records.proofs.differ.Tie as tie
 
 abbrev Inv-loop : tie.InvT-loop
 Inv-loop standing planned i₀ i = (i ≤ 20) × ((p : Part) → InRing i p → differs (commandsOf standing) (commandsOf planned) p ≡ false)
