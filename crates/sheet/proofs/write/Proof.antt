@@ -60,8 +60,10 @@ lay-out-requires : tie.Need-lay-out-requires
 lay-out-requires c κs =
     let d = c .before .before .before .before .before in (
       appended-length (d .phases .ensures .0),
-      (appended-length (d .phases .ensures .1),
-      (omega (arith, counted d), (omega (arith, counted d), omega (facts, counted d)))),
+      (
+        appended-length (d .phases .ensures .1),
+        (omega (arith, counted d), (omega (arith, counted d), omega (facts, counted d))),
+      ),
     )
 
 returns-2 : tie.Need-returns-2
