@@ -30,13 +30,13 @@ use Rattle.theory.specs.Connected.{connected-ext}
 use Rattle.theory.specs.Paths.{lower, Ends, lower-lt, path-at, path-in, source-on, breaker-on, line-on, generator-on, generator-breaker-on, bus-breaker-on}
 use Rattle.theory.specs.Paths.{pathTo, tried-at}
 use Rattle.theory.specs.Choosing.{safe-chosen, chosen-ends}
-use Rattle.planner.specs.declared.Progress.{Progress}
-use Rattle.planner.specs.declared.Span.{Span}
-use Rattle.planner.specs.declared.Found.{Found}
-use Rattle.planner.specs.declared.Found.the-variants as found
-use Rattle.planner.specs.Arrays.{setAll, set-all-places, both}
-use Rattle.planner.specs.Walk.{reach, reach-at, reach-connected}
-use Rattle.planner.specs.Search.{spanOf, at, passesBy, pathFound}
+use Rattle.planner.specs.declared.progress.Progress.{Progress}
+use Rattle.planner.specs.declared.search.Span.{Span}
+use Rattle.planner.specs.declared.search.Found.{Found}
+use Rattle.planner.specs.declared.search.Found.the-variants as found
+use Rattle.planner.specs.Arrays.{at, setAll, set-all-places, both}
+use Rattle.planner.specs.Walk.{closedBy, reach, reach-at, reach-connected}
+use Rattle.planner.specs.Search.{spanOf, passesBy, pathFound}
 use Rattle.planner.specs.Owner.{owner, mayFeed, pathSteps, passes, ends-in, owner-more, walk-choice}
 
 -- the choice of the bus served last
@@ -56,10 +56,6 @@ served n H b =
 -- the health of each bus breaker
 abbrev pub breakersOf : PartHealth → ℕ → ℕ
 breakersOf H i = H (busBreaker i)
-
--- a bus breaker counts as closed: B has the health of each, l says which are on chosen paths
-abbrev pub closedBy : (ℕ → ℕ) → List Bool → ℕ → Bool
-closedBy B l i = stuckClosed (B i) || getD l i false
 
 -- the commands with a generator and its breaker on, and these bus breakers
 abbrev pub commandsWith : Progress → ℕ → List Bool → Commands
@@ -247,16 +243,16 @@ module _ (n : ℕ) (h : Health) (b : ℕ) (usable : List Bool) (s : Progress) (f
       owners : ℕ → ℕ
       owners = at (served n (healthOf h) b .owners)
 
-  pub serve-dark : f ≡ found.Nothing → darkened s ≡ served n (healthOf h) (b + 1)
-  serve-dark e = rw is (served-dark n (healthOf h) b hb (rw e at found-plan))
+  pub serve-dark : {t : Progress} → f ≡ found.Nothing → t ≡ darkened s → t ≡ served n (healthOf h) (b + 1)
+  serve-dark e d = rw (d, is) (served-dark n (healthOf h) b hb (rw e at found-plan))
 
   module _ (g : ℕ) (r : Bool) (e : f ≡ found.Path g r) where
     pub serve-source : g < n
     unfolding plan
     serve-source = chosen-ends n (healthOf h) (chosen n (healthOf h) b) b (pathTo b g r) hb (rw e at found-plan) .0 .source
 
-    pub serve-path : taken n (healthOf h) s (pathTo b g r) ≡ served n (healthOf h) (b + 1)
-    serve-path = rw is (served-path n (healthOf h) b hb (pathTo b g r) hn (rw e at found-plan))
+    pub serve-path : {t : Progress} → t ≡ taken n (healthOf h) s (pathTo b g r) → t ≡ served n (healthOf h) (b + 1)
+    serve-path d = rw (d, is) (served-path n (healthOf h) b hb (pathTo b g r) hn (rw e at found-plan))
 
 -- ---- before the first bus and after the last
 

@@ -6,10 +6,10 @@ use mathlib.Core.List.{List, [], _∷_, List·Memᴰ·head, List·Memᴰ·tail, 
 use Prim.Native.Nat.{ℕ, zero, suc, _+_, _-_, _≤_, _<_}
 use native.Mathlib.Omega.{arith}
 use lib.Dec.{eqb}
-use lib.ListN.{set}
+use lib.ListN.{getD, set}
 use borrow.Author.Tests.{eqb-true, eq-eqb, ne-eqb, not-true}
 use Rattle.model.specs.Lists.{anyOf, _∈_}
-use Rattle.model.specs.Plant.{stuckOpen, next, up, arc, Leads, stay, rise, fall, connected}
+use Rattle.model.specs.Plant.{stuckOpen, stuckClosed, next, up, arc, Leads, stay, rise, fall, connected}
 use Rattle.model.specs.Laws.Tests.{not-of, and-left, and-right, and-intro, or-cases, or-left, or-right, iff, dec, dec-eq}
 use Rattle.model.specs.Laws.Lists.{any-at, any-in}
 use Rattle.theory.specs.Geometry.{Next, more, last, next-cases, next-lt, up-refl, up-zero, up-lt, up-next, up-next-right}
@@ -127,13 +127,23 @@ next-previous n k hk = go (dec-eq k 0)
     go (inl e) = rw (eq-eqb k 0 e) (omega arith, at (n - 1) (omega arith) (next-cases n (n - 1) (omega arith)) (λ l. e) (λ l. absurd (omega arith)))
     go (inr e) = rw (ne-eqb k 0 e) (omega arith, at (k - 1) (omega arith) (next-cases n (k - 1) (omega arith)) (λ l. absurd (omega arith)) (λ l. omega arith))
 
--- the bus breaker at bus k on its rising or its falling side, and the bus behind it
+-- one step less leads from bus a to the bus before bus k
+pub up-previous : (n a k : ℕ) → a < n → k < n → a ≢ k → up n a k ≡ suc (up n a (previous n k))
+up-previous n a k ha hk ne =
+    let p = next-previous n k hk in
+    rw (p .1) at (up-next-right n a (previous n k) ha (p .0) (λ q. ne (sym q ∙ p .1)))
+
+-- the bus breaker at bus k on its rising or its falling side
 abbrev pub breakerBeside : ℕ → Bool → ℕ → ℕ
 breakerBeside n r k = cond r k (previous n k)
 
 -- .. and the bus behind it
 abbrev pub busBeside : ℕ → Bool → ℕ → ℕ
 busBeside n r k = cond r (next n k) (previous n k)
+
+-- a bus breaker counts as closed: B has the health of each, l says which are on chosen paths
+abbrev pub closedBy : (ℕ → ℕ) → List Bool → ℕ → Bool
+closedBy B l i = stuckClosed (B i) || getD l i false
 
 -- bus k and those after it on one side while the breakers between are closed, m at most
 unfoldable pub reach : ℕ → (ℕ → Bool) → Bool → ℕ → ℕ → List ℕ
@@ -187,19 +197,10 @@ module _ (n : ℕ) (C : ℕ → Bool) where
       on : (i : ℕ) → i < n → up n (next n k) i < up n (next n k) v → (k ≡ i) ⊎ (k ≢ i) → C i ≡ true
       on i hi l (inl e) = rw (← e) here
       on i hi l (inr e) = f i hi (omega (arith, far, up-next n k i hk hi e))
-  step false k v hk hv ne f = (f p hp (omega (arith, far)), (λ i hi l. f i hi (omega (arith, far))), far)
+  step false k v hk hv ne f = (f (previous n k) (next-previous n k hk .0) (omega (arith, far)), (λ i hi l. f i hi (omega (arith, far))), far)
     where
-      p : ℕ
-      p = previous n k
-
-      hp : p < n
-      hp = next-previous n k hk .0
-
-      e : next n p ≡ k
-      e = next-previous n k hk .1
-
-      far : up n v k ≡ suc (up n v p)
-      far = rw e at (up-next-right n v p hv hp (λ q. ne (sym e ∙ q)))
+      far : up n v k ≡ suc (up n v (previous n k))
+      far = up-previous n v k hv hk (λ q. ne (sym q))
 
   reach-in : (r : Bool) (m k v : ℕ) → k < n → v < n → Closed n C r k v → steps n r k v < m → v ∈ reach n C r k m
   unfolding reach
