@@ -15,6 +15,7 @@ use Rattle.model.specs.Lists.{first}
 use Rattle.model.specs.Plant.{up}
 use Rattle.model.specs.Priority.{Path, sources, highRises, pathsFrom, paths}
 use Rattle.model.specs.Laws.Tests.{contra, and-left, and-right, and-intro, dec, dec-eq, dec-lt}
+use Rattle.theory.specs.Geometry.{up-lt}
 use Rattle.theory.specs.Priorities.{sources-length}
 use Rattle.theory.specs.Paths.{lower, upper, Ends, lower-lt, upper-lt, pathTo}
 use Rattle.planner.specs.declared.search.Span.{Span}
@@ -61,8 +62,12 @@ pathsLeft n b r p = drop p (pathsFrom n b (getD (sources n b) r 0)) ++ pathsAfte
 unfoldable pub triedBy : ℕ → List Bool → List ℕ → List ℕ → ℕ → ℕ → ℕ → Bool
 triedBy n usable breakers owners b g p = ltb p (pathCount b g) && passesBy n usable breakers owners (pathTo b g (pathRises n b g p))
 
-pub span-lt : (n b g : ℕ) (r : Bool) → b < n → g < n → lower (pathTo b g r) < n
-span-lt n b g r hb hg = lower-lt {w = pathTo b g r} (record { source = hg; bus = hb })
+-- a path's span begins in the ring and has fewer breakers than the ring
+pub span-lt : (n b g : ℕ) (r : Bool) → b < n → g < n → (spanOf n (pathTo b g r) .from < n) × (spanOf n (pathTo b g r) .steps < n)
+span-lt n b g r hb hg =
+    let w = pathTo b g r in
+    let h : Ends n w = record { source = hg; bus = hb } in
+    (lower-lt h, up-lt n (lower w) (upper w) (lower-lt h) (upper-lt h))
 
 -- ---- the paths of one generator
 

@@ -51,7 +51,7 @@ fn take(n: usize, health: Health, progress: Progress, b: usize, g: usize, rising
     generator_breakers[g] = true;
     let span = search::span_of(n, b, g, rising);
     let before = progress.commands.bus_breakers;
-    let bus_breakers = walk::close(n, before, span.from, span.steps);
+    let bus_breakers = walk::close(n, before, g, rising, span.steps);
     let last = BusChoice {
         choice: named(n, b, g, rising),
     };

@@ -2,10 +2,10 @@
 ghost use mathlib.Core.Path.{_≡_};
 ghost use mathlib.Core.Bool.{true, _||_};
 ghost use Prim.Native.Nat.{_≤_, _<_};
-ghost use Rattle.model.specs.Plant.{stuckClosed, up as stepsUp, arc};
+ghost use Rattle.model.specs.Plant.{stuckClosed, up as stepsUp};
 ghost use Rattle.planner.specs.Arrays.{at, setAll};
 ghost use Rattle.planner.specs.Walk.{free as mayConnect, clear as clearWalk, previous as busBefore};
-ghost use Rattle.planner.specs.Walk.{breakerBeside, busBeside, closedBy, reach};
+ghost use Rattle.planner.specs.Walk.{breakerBeside, busBeside, outward, closedBy, reach};
 use model::STUCK_CLOSED;
 use model::STUCK_OPEN;
 
@@ -26,7 +26,7 @@ pub fn up(n: usize, a: usize, b: usize) -> usize
 }
 
 // The bus breaker at bus k on its rising or its falling side.
-pub fn breaker_beside(n: usize, k: usize, rising: bool) -> usize
+fn breaker_beside(n: usize, k: usize, rising: bool) -> usize
     requires { ⌜ (k < n) × (n ≤ 20) ⌝ }
     ensures { λ r. ⌜ r ≡ breakerBeside n rising k ⌝ }
 {
@@ -83,17 +83,21 @@ pub fn clear(
     free(owners[k], number)
 }
 
-// The bus breakers on chosen paths, with those of one path more.
-pub fn close(n: usize, closed: [bool; 20], from: usize, steps: usize) -> [bool; 20]
-    requires { ⌜ (from < n) × (n ≤ 20) ⌝ }
-    ensures { λ r. ⌜ r ≡ setAll true (arc n from steps) closed ⌝ }
+// The bus breakers on chosen paths, with those of one path more: so many outward from its generator's bus, none for an own path.
+pub fn close(n: usize, closed: [bool; 20], g: usize, rising: bool, steps: usize) -> [bool; 20]
+    requires { ⌜ (g < n) × (steps < n) × (n ≤ 20) ⌝ }
+    ensures { λ r. ⌜ r ≡ setAll true (outward n rising g steps) closed ⌝ }
 {
     let mut c = closed;
-    let mut k = from;
+    if steps == 0 {
+        return c;
+    }
+    let mut k = g;
     let mut done = 0;
     while done < steps {
-        c[k] = true;
-        k = geometry::next(n, k);
+        let i = breaker_beside(n, k, rising);
+        c[i] = true;
+        k = bus_beside(n, k, rising);
         done += 1;
     }
     c

@@ -35,7 +35,7 @@ clear-requires : tie.Need-clear-requires
 clear-requires c κs =
     let d = c .before .before in
     let a = d .before .before .before .before .before .args in
-    rw (c .before .span-of .ensures) (span-lt (a .n) (a .b) (a .g) (d .rises .result) (search auto) (search auto), search auto)
+    rw (c .before .span-of .ensures) (span-lt (a .n) (a .b) (a .g) (d .rises .result) (search auto) (search auto) .0, search auto)
 
 returns-3 : tie.Need-returns-3
 returns-3 c =
