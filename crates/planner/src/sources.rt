@@ -7,7 +7,6 @@ ghost use Rattle.model.specs.Plant.{fit, stuckOpen};
 ghost use Rattle.model.specs.Priority.{sources};
 ghost use Rattle.model.specs.Reports.{places, healthOf};
 ghost use Rattle.planner.specs.Owner.{mayFeed};
-use model::FIT;
 use model::Health;
 use model::STUCK_OPEN;
 
@@ -19,11 +18,11 @@ pub fn number_of(g: usize) -> u8
     g as u8 + 1
 }
 
-// Whether a generator may feed: it is fit, and its breaker is not stuck open. The one place where a generator is judged.
+// Whether a generator may feed: it is fit, and its breaker is not stuck open.
 fn may_feed(generator: u8, breaker: u8) -> bool
     ensures { λ r. ⌜ r ≡ fit generator && not (stuckOpen breaker) ⌝ }
 {
-    if generator == FIT {
+    if components::fit_generator(generator) {
         return breaker != STUCK_OPEN;
     }
     false

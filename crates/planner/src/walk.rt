@@ -39,7 +39,7 @@ fn bus_beside(n: usize, k: usize, rising: bool) -> usize
     ensures { λ r. ⌜ r ≡ busBeside n rising k ⌝ }
 {
     if rising {
-        geometry::next(n, k)
+        components::next(n, k)
     } else {
         previous(n, k)
     }
@@ -77,7 +77,7 @@ pub fn clear(
         if !free(owners[k], number) {
             return false;
         }
-        k = geometry::next(n, k);
+        k = components::next(n, k);
         left -= 1;
     }
     free(owners[k], number)
