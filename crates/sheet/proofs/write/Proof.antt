@@ -54,7 +54,7 @@ add-if1-2 : tie.Need-add-if1-2
 add-if1-2 c = omega (arith, counted (c .before))
 
 returns : tie.Need-returns
-returns c = let d = c .before .before in write-refused _ _ (omega (facts, counted d))
+returns c = let d = c .before .before in write-refused _ _ (omega (arith, facts, counted d))
 
 lay-out-requires : tie.Need-lay-out-requires
 lay-out-requires c κs =
@@ -62,14 +62,14 @@ lay-out-requires c κs =
       appended-length (d .phases .ensures .0),
       (
         appended-length (d .phases .ensures .1),
-        (omega (arith, counted d), (omega (arith, counted d), omega (facts, counted d))),
+        (omega (arith, counted d), (omega (arith, counted d), omega (arith, facts, counted d))),
       ),
     )
 
 returns-2 : tie.Need-returns-2
 returns-2 c =
     let d = c .before .before .before .before .before .before .before .before in
-    write-served (bytes d) (now (start d .args .buffer)) (omega (facts, counted d)) _
+    write-served (bytes d) (now (start d .args .buffer)) (omega (arith, facts, counted d)) _
     (c .before .before .lay-out .ensures ∙ ap (λ l. written l (now (start d .args .buffer))) (made d))
 
 pub write-spec : {M : Type 1} → statement M
