@@ -6,30 +6,19 @@ use mathlib.Core.Bool.{true, false}
 use mathlib.Core.Logic.{_↔_}
 use mathlib.Core.List.{List, [], _∷_, _++_}
 use mathlib.Core.Option.{Option, none, some}
-use Prim.Native.Nat.{ℕ, zero, suc, _*_, _≤_, _<_}
+use Prim.Native.Nat.{ℕ, zero, suc, _<_}
 use lib.ListN.{length, getD}
 use Rattle.model.specs.declared.Part.{Part}
 use Rattle.model.specs.declared.Choice.the-variants.{Dark}
 use Rattle.model.specs.Values.{partCode}
-use Rattle.model.specs.Plant.{PartHealth, smallest, largest, InRing}
-use Rattle.model.specs.Priority.{Path, sources, pathParts, paths}
+use Rattle.model.specs.Plant.{PartHealth, InRing}
+use Rattle.model.specs.Priority.{Path, pathParts, paths}
 use Rattle.model.specs.Choosing.{permitted, addPath, choiceOf}
+use Rattle.model.specs.Reports.{blankRing}
 use Rattle.model.specs.Answers.{Reply}
 use Rattle.model.specs.Lists.{_∈_, RisingBy}
 use Rattle.theory.specs.Demand3.{Controller, PlantState, freshPlant, afterWords, Operation, Phases, decode, Calls, Call, Ended, World, Performed, replyTo}
-use Rattle.theory.specs.Demand3.{words, isServed}
-
--- a list without repeats
-pub data Distinct {A : Type 0} : List A → Type 0 where
-  empty : Distinct []
-  more : {x : A} {xs : List A} → (x ∈ xs → ⊥) → Distinct xs → Distinct (x ∷ xs)
-
--- what bus b tries: every generator once, and every path once, one from its own generator and two from each other
-pub record Priorities (n b : ℕ) : Type 0 where
-  pub every-source : (g : ℕ) → g ∈ sources n b ↔ (g < n)
-  pub source-once : Distinct (sources n b)
-  pub path-count : suc (length (paths n b)) ≡ 2 * n
-  pub path-once : Distinct (paths n b)
+use Rattle.theory.specs.Demand3.{words, lent, isServed, StartMeets, Meets, Answered}
 
 -- the first permitted path of a list, after the paths ws; none where none is permitted
 pub data FirstPermitted (n : ℕ) (H : PartHealth) (ws : List Path) (tried : List Path) : Option Path → Type 0 where
@@ -46,6 +35,14 @@ earlier f (suc k) = addPath (f k) (earlier f k)
 abbrev pub Needed : ℕ → (ℕ → Option Path) → Part → Type 0
 Needed n f p = (w : Path) × (w ∈ earlier f n) × (p ∈ pathParts n w)
 
+-- an operation that is to open: off or open, of a part of the ring that was on or closed and is on no path
+abbrev pub ToOpen : ℕ → PlantState → (ℕ → Option Path) → Operation → Type 0
+ToOpen n P f o = (o .command ≡ false) × InRing n (o .part) × (P .last (o .part) ≡ true) × (Needed n f (o .part) → ⊥)
+
+-- .. and one that is to close: on or closed, of a part of the ring that was not and is on some path
+abbrev pub ToClose : ℕ → PlantState → (ℕ → Option Path) → Operation → Type 0
+ToClose n P f o = (o .command ≡ true) × InRing n (o .part) × (P .last (o .part) ≡ false) × Needed n f (o .part)
+
 -- what a served call's answer is, for the plant just before its operations
 pub record Serves (n : ℕ) (P : PlantState) (reply : Reply) : Type 0 where
   -- each bus's path, and its name in the answer
@@ -56,14 +53,22 @@ pub record Serves (n : ℕ) (P : PlantState) (reply : Reply) : Type 0 where
   -- "the orders in both waves are those that bring this about, none missing or extra", each once, in rising code
   pub phases : Phases
   pub decodes : decode n (reply .buffer) ≡ some phases
-  pub opens : (o : Operation) → o ∈ phases .first ↔ ((o .command ≡ false) × InRing n (o .part) × (P .last (o .part) ≡ true) × (Needed n path (o .part) → ⊥))
-  pub closes : (o : Operation) → o ∈ phases .second ↔ ((o .command ≡ true) × InRing n (o .part) × (P .last (o .part) ≡ false) × Needed n path (o .part))
+  pub opens : (o : Operation) → o ∈ phases .first → ToOpen n P path o
+  pub all-open : (o : Operation) → ToOpen n P path o → o ∈ phases .first
+  pub closes : (o : Operation) → o ∈ phases .second → ToClose n P path o
+  pub all-close : (o : Operation) → ToClose n P path o → o ∈ phases .second
   pub opens-rising : RisingBy (λ (o : Operation). partCode (o .part)) (phases .first)
   pub closes-rising : RisingBy (λ (o : Operation). partCode (o .part)) (phases .second)
   pub brings-about : (Q : PlantState) → Performed phases P Q → (p : Part) → InRing n p → Q .last p ≡ true ↔ Needed n path p
 
 -- "For every list of reports": a statement about a controller
 pub record Demand2 (c : Controller) : Type 0 where
-  pub start-serves : (n : ℕ) (buffer : List ℕ) → smallest ≤ n → n ≤ largest → isServed (c .start n buffer) ≡ true → Serves n freshPlant (c .start n buffer)
-  pub call-serves : (n : ℕ) (buffer : List ℕ) → smallest ≤ n → n ≤ largest → isServed (c .start n buffer) ≡ true → {before : Calls} {W : World} (call : Call)
-      → Ended c n buffer before W → isServed (replyTo c (W .ring) call) ≡ true → Serves n (afterWords (words call) (W .plant)) (replyTo c (W .ring) call)
+  -- a start is served or refused as it must be, and a served one gives what it must
+  pub start-answered : (n : ℕ) (buffer : List ℕ) → Answered (StartMeets n (length buffer)) (blankRing 0) buffer (c .start n buffer)
+  pub start-serves : (n : ℕ) (buffer : List ℕ) → isServed (c .start n buffer) ≡ true → Serves n freshPlant (c .start n buffer)
+  -- and so is every call of every list
+  pub call-answered : (n : ℕ) (buffer : List ℕ) → isServed (c .start n buffer) ≡ true → {before : Calls} {W : World} (call : Call)
+      → Ended c n buffer before W → Answered (Meets n (W .plant) call) (W .ring) (lent call) (replyTo c (W .ring) call)
+  pub call-serves : (n : ℕ) (buffer : List ℕ) → isServed (c .start n buffer) ≡ true → {before : Calls} {W : World} (call : Call)
+      → Ended c n buffer before W → isServed (replyTo c (W .ring) call) ≡ true
+      → Serves n (afterWords (words call) (W .plant)) (replyTo c (W .ring) call)

@@ -22,11 +22,12 @@ use Rattle.model.specs.Laws.Choosing.{choices-at}
 use Rattle.model.specs.Laws.Parts.{parts-rise}
 use Rattle.theory.specs.Choosing.{on-in}
 use Rattle.theory.specs.Feeds.{commanded-at}
-use Rattle.theory.specs.Demand3.{PlantState, Operation, operation, nothing, _then_, whole, Performed, performed, AsChosen}
+use Rattle.theory.specs.Demand3.{PlantState, Operation, operation, isServed, nothing, _then_, whole, Performed, performed, AsChosen}
 use Rattle.theory.specs.Operations.{operation-at, opening-at, opening-in, closing-at, closing-in}
 use Rattle.theory.specs.Steady.{both-done}
+use Rattle.theory.specs.Answering.{start-fine}
 use Rattle.theory.specs.Demand3Holds.{controller, demand3}
-use Rattle.theory.specs.Demand2.{FirstPermitted, found, not-found, earlier, Needed, Serves, Demand2}
+use Rattle.theory.specs.Demand2.{FirstPermitted, found, not-found, earlier, Needed, ToOpen, ToClose, Serves, Demand2}
 
 -- ---- the first permitted path
 
@@ -46,7 +47,7 @@ unfolding earlier chosen plan
 earlier-chosen n H zero = refl
 earlier-chosen n H (suc k) = rw (earlier-chosen n H k)
 
-needed-commanded : (n : ℕ) (H : PartHealth) (p : Part) → Needed n (plan n H) p ↔ (commands n H p ≡ true)
+pub needed-commanded : (n : ℕ) (H : PartHealth) (p : Part) → Needed n (plan n H) p ↔ (commands n H p ≡ true)
 unfolding commands
 needed-commanded n H p = (
   λ t. on-in n p (rw (earlier-chosen n H n) at (t .1)) (t .2),
@@ -58,14 +59,6 @@ needed-commanded n H p = (
 -- an operation is its part and its command
 is-operation : (c : Bool) (o : Operation) → o .command ≡ c → o ≡ operation c (o .part)
 is-operation c o e = λ i. record { part = o .part; command = e i }
-
--- what is to open, for a plant
-abbrev pub ToOpen : ℕ → PlantState → (ℕ → Option Path) → Operation → Type 0
-ToOpen n P f o = (o .command ≡ false) × InRing n (o .part) × (P .last (o .part) ≡ true) × (Needed n f (o .part) → ⊥)
-
--- .. and what is to close
-abbrev pub ToClose : ℕ → PlantState → (ℕ → Option Path) → Operation → Type 0
-ToClose n P f o = (o .command ≡ true) × InRing n (o .part) × (P .last (o .part) ≡ false) × Needed n f (o .part)
 
 module _ (n : ℕ) (P : PlantState) where
   abbrev H : PartHealth
@@ -117,8 +110,10 @@ serves {n} {P} small a = record {
   first-permitted = λ b hb. rw (earlier-chosen n (P .health) b) (first-permitted n (P .health) (chosen n (P .health) b) (paths n b));
   phases = a .phases;
   decodes = a .decodes;
-  opens = λ o. rw (a .first-is) (opens-exactly n P o);
-  closes = λ o. rw (a .second-is) (closes-exactly n P o);
+  opens = λ o m. opens-exactly n P o .0 (rw (a .first-is) at m);
+  all-open = λ o t. rw (a .first-is) (opens-exactly n P o .1 t);
+  closes = λ o m. closes-exactly n P o .0 (rw (a .second-is) at m);
+  all-close = λ o t. rw (a .second-is) (closes-exactly n P o .1 t);
   opens-rising = rw (a .first-is) (opens-rise n P small);
   closes-rising = rw (a .second-is) (closes-rise n P small);
   brings-about = about;
@@ -131,6 +126,12 @@ serves {n} {P} small a = record {
 
 pub demand2 : Demand2 controller
 demand2 = record {
-  start-serves = λ n buffer big small begun. serves small (demand3 .holds n buffer big small begun nothing .start-chosen);
-  call-serves = λ n buffer big small begun {before} call h e. serves small (demand3 .holds n buffer big small begun (before then call) .chosen call whole h e);
+  start-answered = demand3 .start-answered;
+  start-serves = λ n buffer begun. serves (small n buffer begun) (demand3 .holds n buffer begun nothing .start-chosen);
+  call-answered = λ n buffer begun {before} call h. demand3 .holds n buffer begun (before then call) .answered call whole h;
+  call-serves = λ n buffer begun {before} call h e.
+      serves (small n buffer begun) (demand3 .holds n buffer begun (before then call) .chosen call whole h e);
 }
+  where
+    small : (n : ℕ) (buffer : List ℕ) → isServed (controller .start n buffer) ≡ true → n ≤ largest
+    small n buffer begun = start-fine n buffer begun .small

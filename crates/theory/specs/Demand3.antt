@@ -4,7 +4,7 @@
 -- Document 01, "The plant beside the list". A stroke is an operation here, a halt an interruption, a wave a phase.
 use mathlib.Core.Path.{_≡_}
 use mathlib.Core.Bool.{Bool, true, false, not, _&&_, cond}
-use mathlib.Core.Logic.{_≢_, _↔_}
+use mathlib.Core.Logic.{_≢_}
 use mathlib.Core.List.{List, [], _∷_, _++_, map, List·Permᴰ}
 use mathlib.Core.Option.{Option, none, some}
 use Prim.Native.Nat.{ℕ, zero, suc, _+_, _*_, _≤_, _<_}
@@ -27,8 +27,8 @@ use Rattle.model.specs.Values.{number, samePart, choiceSource}
 use Rattle.model.specs.Plant.{PartHealth, PartCommands, smallest, largest, busFeed, InRing, Reaches}
 use Rattle.model.specs.Choosing.{commands, choices}
 use Rattle.model.specs.Sheet.{opening, closing, sheet}
-use Rattle.model.specs.Reports.{partNamed, healthOf, commandsOf}
-use Rattle.model.specs.Answers.{Reply}
+use Rattle.model.specs.Reports.{partNamed, healthOf, commandsOf, blankRing}
+use Rattle.model.specs.Answers.{Reply, allDark}
 
 -- a controller: what it gives at a start, and at a step with the record handed in
 pub record Controller : Type 0 where
@@ -46,7 +46,8 @@ pub record PlantState : Type 0 where
 abbrev pub freshPlant : PlantState
 freshPlant = record { health = λ p. 0; last = λ p. false }
 
--- the health that a word brings about
+-- the health that a word brings about: said here anew, as `wordRefusal` is below, so that the plant does not take its rules from
+-- what the controller is proved to follow; that they agree is proved
 abbrev pub effect : Word → ℕ
 effect Fit = 0
 effect StuckOff = 1
@@ -108,11 +109,20 @@ unfoldable pub phasesAt : ℕ → Option (List Operation) → Option Phases
 phasesAt k none = none
 phasesAt k (some os) = some (record { first = take k os; second = drop k os })
 
--- "its sizes first (one byte each: first wave, second wave)"; "With k orders it is 2 + 2k bytes"; none where the buffer has fewer
+-- "its sizes first (one byte each: first wave, second wave)": how many operations the sheet at the front of a buffer has
+abbrev pub operationCount : List ℕ → ℕ
+operationCount bytes = getD bytes 0 0 + getD bytes 1 0
+
+-- "With k orders it is 2 + 2k bytes"
+abbrev pub sheetLength : List ℕ → ℕ
+sheetLength bytes = 2 + 2 * operationCount bytes
+
+-- the sheet at the front of a buffer; none where the buffer has fewer bytes
 unfoldable pub decode : ℕ → List ℕ → Option Phases
 decode n bytes =
-    let k = getD bytes 0 0 + getD bytes 1 0 in
-    cond (leb (2 + 2 * k) (length bytes)) (phasesAt (getD bytes 0 0) (operations n (take k (drop 2 bytes)) (take k (drop (2 + k) bytes)))) none
+    let k = operationCount bytes in
+    cond (leb (sheetLength bytes) (length bytes))
+    (phasesAt (getD bytes 0 0) (operations n (take k (drop 2 bytes)) (take k (drop (2 + k) bytes)))) none
 
 -- ---- the list of calls
 
@@ -215,7 +225,8 @@ shownAt W b = getD (W .shown) b (record { choice = choice.Dark }) .choice
 -- "Whenever a call's orders have ended ..": of one bus
 pub record BusShown (n : ℕ) (W : World) (b : ℕ) : Type 0 where
   -- "a bus stands shown as dark exactly when no fit generator has a run of breakers to it, none stuck open"
-  pub de-energized-exactly : shownAt W b ≡ choice.Dark ↔ ((g : ℕ) → Reaches n (W .plant .health) b g → ⊥)
+  pub dark-unreached : shownAt W b ≡ choice.Dark → (g : ℕ) → Reaches n (W .plant .health) b g → ⊥
+  pub unreached-dark : ((g : ℕ) → Reaches n (W .plant .health) b g → ⊥) → shownAt W b ≡ choice.Dark
   -- "a bus shown lit is fed by the generator named and no other"
   pub energized : shownAt W b ≢ choice.Dark → busFeed n (W .plant .health) (W .plant .last) b ≡ feed.Fed (choiceSource (shownAt W b))
   -- "a dark one by none"
@@ -226,7 +237,8 @@ pub record RecordGiven (n : ℕ) (W : World) : Type 0 where
   pub size : W .ring .n ≡ n
   pub health : (p : Part) → InRing n p → healthOf (W .ring .health) p ≡ W .plant .health p
   pub standing : (p : Part) → InRing n p → commandsOf (W .ring .commands) p ≡ W .plant .last p
-  pub above : (p : Part) → InRing largest p → n < number p → (healthOf (W .ring .health) p ≡ 0) × (commandsOf (W .ring .commands) p ≡ false)
+  pub health-above : (p : Part) → InRing largest p → n < number p → healthOf (W .ring .health) p ≡ 0
+  pub commands-above : (p : Part) → InRing largest p → n < number p → commandsOf (W .ring .commands) p ≡ false
 
 -- the operation of a part: off or open, or on or closed
 abbrev pub operation : Bool → Part → Operation
@@ -255,18 +267,36 @@ wordRefusal (BusBreaker k) StuckOff = 6
 wordRefusal (BusBreaker k) StuckOpen = 0
 wordRefusal (BusBreaker k) StuckClosed = 0
 
--- the refusal that meets a step of the list: 5, then 6 and 7, then 8; 9 meets none
-pub data Meets (n : ℕ) (P : PlantState) (r : Report) (room : ℕ) : ℕ → Type 0 where
-  no-part : (InRing n (r .part) → ⊥) → Meets n P r room 5
-  no-word : {k : ℕ} → InRing n (r .part) → wordRefusal (r .part) (r .word) ≡ suc k → Meets n P r room (suc k)
-  no-room : InRing n (r .part) → wordRefusal (r .part) (r .word) ≡ 0
-      → room < length (sheet n (P .last) (commands n (afterWord r P .health))) → Meets n P r room 8
+-- how many bytes the sheet for a plant has
+abbrev pub sheetFor : ℕ → PlantState → ℕ
+sheetFor n P = length (sheet n (P .last) (commands n (P .health)))
 
--- "a call is refused exactly when a numbered refusal meets it"; it changes no record and no byte lent
-pub record Answered (n : ℕ) (W : World) (r : Report) (buffer : List ℕ) (reply : Reply) : Type 0 where
-  pub exactly : (k : ℕ) → reply .answer .outcome ≡ outcome.Refused k ↔ Meets n (W .plant) r (length buffer) k
-  pub record-kept : isServed reply ≡ false → reply .answer .ring ≡ W .ring
+-- "a start 2, 8": the refusal that meets a start, with a buffer of this length
+pub data StartMeets (n room : ℕ) : ℕ → Type 0 where
+  too-small : n < smallest → StartMeets n room 2
+  too-large : largest < n → StartMeets n room 2
+  too-short : smallest ≤ n → n ≤ largest → room < sheetFor n freshPlant → StartMeets n room 8
+
+-- "A step checks 9, 5, 6, 7, 8": the refusal that meets a call of the list; 9 meets none
+pub data Meets (n : ℕ) (P : PlantState) : Call → ℕ → Type 0 where
+  no-part : {r : Report} {buffer : List ℕ} → (InRing n (r .part) → ⊥) → Meets n P (step r buffer) 5
+  no-word : {r : Report} {buffer : List ℕ} {k : ℕ} → InRing n (r .part) → wordRefusal (r .part) (r .word) ≡ suc k
+      → Meets n P (step r buffer) (suc k)
+  no-room : {r : Report} {buffer : List ℕ} → InRing n (r .part) → wordRefusal (r .part) (r .word) ≡ 0
+      → length buffer < sheetFor n (afterWord r P) → Meets n P (step r buffer) 8
+
+-- what is claimed of every call, by the refusals that meet it, the record that it gives where it is refused, and the buffer lent
+pub record Answered (Met : ℕ → Type 0) (kept : Ring) (buffer : List ℕ) (reply : Reply) : Type 0 where
+  -- "a call is refused exactly when a numbered refusal meets it", with its number
+  pub only : (k : ℕ) → reply .answer .outcome ≡ outcome.Refused k → Met k
+  pub always : (k : ℕ) → Met k → reply .answer .outcome ≡ outcome.Refused k
+  -- "the record as handed in and the buffer untouched", "The choices of a refused start or step .. are all dark"
+  pub record-kept : isServed reply ≡ false → reply .answer .ring ≡ kept
   pub buffer-kept : isServed reply ≡ false → reply .buffer ≡ buffer
+  pub choices-dark : isServed reply ≡ false → reply .answer .choices ≡ allDark
+  -- "Bytes of the lent buffer behind the sheet keep their values."
+  pub behind-kept : isServed reply ≡ true → drop (sheetLength (reply .buffer)) (reply .buffer) ≡ drop (sheetLength (reply .buffer)) buffer
+  pub length-kept : length (reply .buffer) ≡ length buffer
 
 -- what holds of a list of calls
 pub record Holds (c : Controller) (n : ℕ) (buffer : List ℕ) (calls : Calls) : Type 0 where
@@ -280,12 +310,16 @@ pub record Holds (c : Controller) (n : ℕ) (buffer : List ℕ) (calls : Calls) 
   pub chosen : {before : Calls} {W : World} (call : Call) → Begins (before then call) calls → Ended c n buffer before W
       → isServed (replyTo c (W .ring) call) ≡ true → AsChosen n (afterWords (words call) (W .plant)) (replyTo c (W .ring) call)
   -- "no bus is fed by two generators", wherever anyone halts the orders, but for the time excepted
-  pub no-clash : {P : PlantState} → Interrupted c n buffer calls P false → (b g h : ℕ) → b < n → busFeed n (P .health) (P .last) b ≢ feed.Clash g h
-  -- refused calls
-  pub answered : {before : Calls} {W : World} (r : Report) (lending : List ℕ) → Begins (before then step r lending) calls → Ended c n buffer before W
-      → Answered n W r lending (c .step (W .ring) r lending)
+  pub no-clash : {P : PlantState} → Interrupted c n buffer calls P false → (b g h : ℕ) → b < n
+      → busFeed n (P .health) (P .last) b ≢ feed.Clash g h
+  -- each call is served or refused as it must be
+  pub answered : {before : Calls} {W : World} (call : Call) → Begins (before then call) calls → Ended c n buffer before W
+      → Answered (Meets n (W .plant) call) (W .ring) (lent call) (replyTo c (W .ring) call)
 
 -- "For every ring size and every list of reports after a fresh start, refused ones included, each handed in with the record
 -- last given, this holds of the plant that document 01 sets beside the list."
 pub record Demand3 (c : Controller) : Type 0 where
-  pub holds : (n : ℕ) (buffer : List ℕ) → smallest ≤ n → n ≤ largest → isServed (c .start n buffer) ≡ true → (calls : Calls) → Holds c n buffer calls
+  -- the start itself, for every n and every buffer; "A refused start has a record with n = 0 and every part fit and ordered off or open."
+  pub start-answered : (n : ℕ) (buffer : List ℕ) → Answered (StartMeets n (length buffer)) (blankRing 0) buffer (c .start n buffer)
+  -- "a served start .. then any number of steps, or none"
+  pub holds : (n : ℕ) (buffer : List ℕ) → isServed (c .start n buffer) ≡ true → (calls : Calls) → Holds c n buffer calls

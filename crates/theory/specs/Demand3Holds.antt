@@ -4,150 +4,46 @@ use mathlib.Core.Bool.{Bool, true, false, cond}
 use mathlib.Core.Logic.{_≢_, _⊎_, inl, inr}
 use mathlib.Core.List.{List, [], _∷_, append-nil, Permᴰ·refl}
 use mathlib.Core.Option.{Option, none, some}
-use Prim.Native.Nat.{ℕ, zero, suc, _≤_, _<_, min}
+use Prim.Native.Nat.{ℕ, _≤_, _<_}
 use native.Mathlib.Omega.{arith}
-use lib.Dec.{ltb, eqb}
-use lib.ListN.{length}
-use borrow.Author.Tests.{ltb-true, ltb-false, eq-eqb, ne-eqb}
 use Rattle.model.specs.declared.Part.{Part}
 use Rattle.model.specs.declared.Part.the-variants.{Generator, GeneratorBreaker, BusBreaker}
 use Rattle.model.specs.declared.Word.{Word}
 use Rattle.model.specs.declared.Word.the-variants.{Fit, StuckOff, StuckOpen, StuckClosed}
 use Rattle.model.specs.declared.Report.{Report}
-use Rattle.model.specs.declared.Ring.{Ring}
 use Rattle.model.specs.declared.Choice.the-variants as choice
 use Rattle.model.specs.declared.Outcome.the-variants as outcome
 use Rattle.model.specs.declared.Feed.the-variants as feed
 use Rattle.model.specs.Lists.{anyOf}
-use Rattle.model.specs.Values.{number, samePart, wordNumber, outcomeOf, choiceSource}
-use Rattle.model.specs.Plant.{PartHealth, PartCommands, smallest, largest, allOff, generatorBreaker, busBreaker, stuckClosed, healthOfKind, busFeed, InRing}
+use Rattle.model.specs.Values.{number, samePart, wordNumber, choiceSource}
+use Rattle.model.specs.Plant.{PartHealth, PartCommands, smallest, largest, generatorBreaker, busBreaker, stuckClosed, healthOfKind, busFeed, InRing}
 use Rattle.model.specs.Priority.{Path}
 use Rattle.model.specs.Choosing.{commands, choices, choiceOf, plan}
-use Rattle.model.specs.Sheet.{opening, closing, sheet}
-use Rattle.model.specs.Reports.{reported, allFit, healthOf, blankRing, told}
-use Rattle.model.specs.Refusals.{firstMet, notOfRing, wordOfOtherKind, generatorFitAgain, tooShort, nextSheet, reportConditions, startRefusal}
-use Rattle.model.specs.Refusals.{stepRefusal}
-use Rattle.model.specs.Answers.{refusedAnswer, refusedReply, servedAnswer, servedReply, startReply, stepReply}
-use Rattle.model.specs.Laws.Tests.{contra, dec, dec-eq, or-cases, or-none}
+use Rattle.model.specs.Sheet.{opening, closing}
+use Rattle.model.specs.Reports.{reported, healthOf, told}
+use Rattle.model.specs.Answers.{refusedAnswer, refusedReply, startReply, stepReply}
+use Rattle.model.specs.Laws.Tests.{contra, dec, or-none}
 use Rattle.model.specs.Laws.Choosing.{choice-source, choice-dark, choices-at}
-use Rattle.model.specs.Laws.Parts.{same-eq, health-places, command-places}
+use Rattle.model.specs.Laws.Parts.{same-eq, health-places}
 use Rattle.theory.specs.Completeness.{de-energized-exactly}
 use Rattle.theory.specs.Feeds.{Single, no-clash, energized-fed, de-energized-fed, reaches-usable, usable-reaches}
 use Rattle.theory.specs.Interruption.{Fewer, NoneStuckClosed, opening-single, closing-single}
 use Rattle.theory.specs.Locality.{feed-ext}
 use Rattle.theory.specs.Demand3.{Controller, PlantState, freshPlant, effect, afterWord, afterWords, Operation, performAll, Phases, decode, Call, step}
-use Rattle.theory.specs.Demand3.{Calls, nothing, _then_, replyTo, words, servedOutcome, isServed, World, Performed, performed, Ended, started, served}
+use Rattle.theory.specs.Demand3.{Calls, nothing, _then_, replyTo, words, isServed, World, Performed, performed, Ended, started, served}
 use Rattle.theory.specs.Demand3.{refused, Moment, in-first, in-second, isStuckClosed, isEmpty, excepted, Interrupted, in-start, between, in-call, shownAt}
-use Rattle.theory.specs.Demand3.{BusShown, AsChosen, wordRefusal, Meets, no-part, no-word, no-room, Answered, Holds, Demand3}
+use Rattle.theory.specs.Demand3.{BusShown, RecordGiven, AsChosen, wordRefusal, lent, Meets, Meets, Answered, Holds, Demand3}
 use Rattle.theory.specs.Operations.{perform-health}
-use Rattle.theory.specs.Steady.{Ready, phasesOf, Steady, sheet-is, fit-of-kind, as-chosen, served-decodes, transition-steady, steady-good, some-of-prefix}
+use Rattle.theory.specs.Steady.{phasesOf, Steady, fit-of-kind, as-chosen, served-decodes, transition-steady, some-of-prefix}
 use Rattle.theory.specs.Steady.{first-fewer, first-done, second-fewer}
+use Rattle.theory.specs.Answering.{start-served, start-fine, start-answered, start-ready, blank-fit, step-ready, step-answered, served-fine}
+use Rattle.theory.specs.Answering.{step-served, step-refused}
 
 -- the controller of the definitions
 abbrev pub controller : Controller
 controller = record { start = startReply; step = stepReply }
 
--- ---- outcomes
-
-refused-number : (k j : ℕ) → outcomeOf k ≡ outcome.Refused j → (k ≡ j) × (0 < k)
-unfolding outcomeOf
-refused-number k j e = go (dec-eq k 0)
-  where
-    go : (k ≡ 0) ⊎ (k ≢ 0) → (k ≡ j) × (0 < k)
-    go (inl z) = let q : outcome.Served ≡ outcome.Refused j = rw (eq-eqb k 0 z) at e in let x : _≡_ {A = ℕ} 0 1 = cc in absurd (omega arith)
-    go (inr z) = let q : outcome.Refused k ≡ outcome.Refused j = rw (ne-eqb k 0 z) at e in (cc, omega arith)
-
-refused-outcome : (k : ℕ) → 0 < k → outcomeOf k ≡ outcome.Refused k
-unfolding outcomeOf
-refused-outcome k h = rw (ne-eqb k 0 (λ e. omega arith))
-
-served-zero : (k : ℕ) → servedOutcome (outcomeOf k) ≡ true → k ≡ 0
-unfolding outcomeOf
-served-zero k e = go (dec-eq k 0)
-  where
-    go : (k ≡ 0) ⊎ (k ≢ 0) → k ≡ 0
-    go (inl z) = z
-    go (inr z) = contra (rw (ne-eqb k 0 z) at e) refl
-
-pub zero-served : (k : ℕ) → k ≡ 0 → servedOutcome (outcomeOf k) ≡ true
-unfolding outcomeOf
-zero-served k z = rw z
-
-module _ (ring : Ring) (r : Report) (buffer : List ℕ) where
-  abbrev pub refusal : ℕ
-  refusal = stepRefusal ring r (length buffer)
-
-  pub step-outcome : stepReply ring r buffer .answer .outcome ≡ outcomeOf refusal
-  unfolding stepReply servedReply servedAnswer refusedReply refusedAnswer outcomeOf
-  step-outcome = go (dec-eq refusal 0)
-    where
-      go : (refusal ≡ 0) ⊎ (refusal ≢ 0) → stepReply ring r buffer .answer .outcome ≡ outcomeOf refusal
-      go (inl e) = rw e
-      go (inr e) = rw (ne-eqb refusal 0 e)
-
-  pub step-served : isServed (stepReply ring r buffer) ≡ true → stepReply ring r buffer ≡ servedReply (told ring r) buffer
-  unfolding stepReply
-  step-served e = rw (served-zero refusal (rw step-outcome at e))
-
-  pub step-refused : isServed (stepReply ring r buffer) ≡ false → stepReply ring r buffer ≡ refusedReply refusal ring buffer
-  unfolding stepReply
-  step-refused e = rw (ne-eqb refusal 0 (λ z. contra (zero-served refusal z) (rw step-outcome at e)))
-
-pub start-served : (n : ℕ) (buffer : List ℕ) → isServed (startReply n buffer) ≡ true → startReply n buffer ≡ servedReply (blankRing n) buffer
-unfolding startReply refusedReply refusedAnswer
-start-served n buffer e = go (dec-eq (startRefusal n (length buffer)) 0)
-  where
-    go : (startRefusal n (length buffer) ≡ 0) ⊎ (startRefusal n (length buffer) ≢ 0) → startReply n buffer ≡ servedReply (blankRing n) buffer
-    go (inl z) = rw z
-    go (inr z) = contra (rw (ne-eqb (startRefusal n (length buffer)) 0 z) at e) refl
-
--- ---- a report, in the record and in the plant
-
-same-effect : (w : Word) → wordNumber w ≡ effect w
-same-effect Fit = refl
-same-effect StuckOff = refl
-same-effect StuckOpen = refl
-same-effect StuckClosed = refl
-
--- the ring and the plant, ready for the phases of a step
-pub step-ready : {n : ℕ} {W : World} → n ≤ largest → Steady n W → (r : Report) → Ready n (told (W .ring) r) (afterWord r (W .plant))
-unfolding told reported afterWord
-step-ready {W = W} small s r = record {
-  size = s .size;
-  health = λ p i. health-places (reported (healthOf (W .ring .health)) r) p (i .0, omega (arith, i .1)) ∙ rw (same-effect (r .word), s .health p i);
-  standing = s .standing;
-}
-
-in-ring : (n : ℕ) (p : Part) → notOfRing n p ≡ false → InRing n p
-unfolding notOfRing
-in-ring n p e =
-    let t = or-none (ltb (number p) 1) (ltb (min n largest) (number p)) e in
-    (ltb-false (number p) 1 (t .0), omega (arith, ltb-false (min n largest) (number p) (t .1)))
-
-not-in-ring : (n : ℕ) (p : Part) → n ≤ largest → notOfRing n p ≡ true → InRing n p → ⊥
-unfolding notOfRing
-not-in-ring n p small e r = go (or-cases (ltb (number p) 1) (ltb (min n largest) (number p)) e)
-  where
-    go : (ltb (number p) 1 ≡ true) ⊎ (ltb (min n largest) (number p) ≡ true) → ⊥
-    go (inl q) = omega (arith, ltb-true (number p) 1 q, r .0)
-    go (inr q) = omega (arith, ltb-true (min n largest) (number p) q, r .1)
-
--- refusals 6 and 7, by cases
-word-refusal : (p : Part) (w : Word) (x : ℕ)
-    → cond (wordOfOtherKind p (wordNumber w)) 6 (cond (generatorFitAgain p (wordNumber w)) 7 x) ≡ cond (eqb (wordRefusal p w) 0) x (wordRefusal p w)
-unfolding wordOfOtherKind generatorFitAgain wordRefusal
-word-refusal (Generator k) Fit x = refl
-word-refusal (Generator k) StuckOff x = refl
-word-refusal (Generator k) StuckOpen x = refl
-word-refusal (Generator k) StuckClosed x = refl
-word-refusal (GeneratorBreaker k) Fit x = refl
-word-refusal (GeneratorBreaker k) StuckOff x = refl
-word-refusal (GeneratorBreaker k) StuckOpen x = refl
-word-refusal (GeneratorBreaker k) StuckClosed x = refl
-word-refusal (BusBreaker k) Fit x = refl
-word-refusal (BusBreaker k) StuckOff x = refl
-word-refusal (BusBreaker k) StuckOpen x = refl
-word-refusal (BusBreaker k) StuckClosed x = refl
+-- ---- after every call all is steady
 
 -- a word that is not refused brings about a health of its part's kind
 word-of-kind : (p : Part) (w : Word) → wordRefusal p w ≡ 0 → healthOfKind p (wordNumber w) ≡ true
@@ -164,85 +60,6 @@ word-of-kind (BusBreaker k) Fit e = refl
 word-of-kind (BusBreaker k) StuckOff e = absurd (omega arith)
 word-of-kind (BusBreaker k) StuckOpen e = refl
 word-of-kind (BusBreaker k) StuckClosed e = refl
-
--- ---- which refusal meets a step of the list
-
--- a number: a refusal that meets the step, or 0 for one that none meets
-pub data Judged (n : ℕ) (P : PlantState) (r : Report) (room : ℕ) : ℕ → Type 0 where
-  met : {k : ℕ} → Meets n P r room k → Judged n P r room k
-  fine : InRing n (r .part) → wordRefusal (r .part) (r .word) ≡ 0 → length (sheet n (P .last) (commands n (afterWord r P .health))) ≤ room → Judged n P r room 0
-
-judge : (n : ℕ) (P : PlantState) (r : Report) (room : ℕ) → n ≤ largest
-    → Judged n P r room (cond (notOfRing n (r .part)) 5 (cond (eqb (wordRefusal (r .part) (r .word)) 0) (cond (tooShort room (sheet n (P .last) (commands n (afterWord r P .health)))) 8 0) (wordRefusal (r .part) (r .word))))
-unfolding tooShort
-judge n P r room small = go (dec (notOfRing n (r .part))) (wordRefusal (r .part) (r .word)) refl (dec (ltb room size))
-  where
-    size : ℕ
-    size = length (sheet n (P .last) (commands n (afterWord r P .health)))
-
-    go : (notOfRing n (r .part) ≡ true) ⊎ (notOfRing n (r .part) ≡ false) → (k : ℕ) → wordRefusal (r .part) (r .word) ≡ k
-        → (ltb room size ≡ true) ⊎ (ltb room size ≡ false)
-        → Judged n P r room (cond (notOfRing n (r .part)) 5 (cond (eqb (wordRefusal (r .part) (r .word)) 0) (cond (ltb room size) 8 0) (wordRefusal (r .part) (r .word))))
-    go (inl p) k e t = rw p (met (no-part (not-in-ring n (r .part) small p)))
-    go (inr p) (suc k) e t = rw (p, e, ne-eqb (suc k) 0 (λ z. omega arith)) (met (no-word (in-ring n (r .part) p) e))
-    go (inr p) zero e (inl t) = rw (p, e, t) (met (no-room (in-ring n (r .part) p) e (ltb-true room size t)))
-    go (inr p) zero e (inr t) = rw (p, e, t) (fine (in-ring n (r .part) p) e (ltb-false room size t))
-
--- no two numbers meet a step
-meets-only : {n : ℕ} {P : PlantState} {r : Report} {room j k : ℕ} → Meets n P r room j → Judged n P r room k → j ≡ k
-meets-only (no-part f) (met (no-part g)) = refl
-meets-only (no-part f) (met (no-word i e)) = absurd (f i)
-meets-only (no-part f) (met (no-room i e l)) = absurd (f i)
-meets-only (no-part f) (fine i e l) = absurd (f i)
-meets-only (no-word i e) (met (no-part f)) = absurd (f i)
-meets-only (no-word i e) (met (no-word i₁ e₁)) = sym e ∙ e₁
-meets-only (no-word i e) (met (no-room i₁ e₁ l)) = absurd (omega arith)
-meets-only (no-word i e) (fine i₁ e₁ l) = absurd (omega arith)
-meets-only (no-room i e l) (met (no-part f)) = absurd (f i)
-meets-only (no-room i e l) (met (no-word i₁ e₁)) = absurd (omega arith)
-meets-only (no-room i e l) (met (no-room i₁ e₁ l₁)) = refl
-meets-only (no-room i e l) (fine i₁ e₁ l₁) = absurd (omega arith)
-
-meets-positive : {n : ℕ} {P : PlantState} {r : Report} {room k : ℕ} → Meets n P r room k → 0 < k
-meets-positive (no-part f) = omega arith
-meets-positive (no-word i e) = omega arith
-meets-positive (no-room i e l) = omega arith
-
-module _ {n : ℕ} {W : World} (big : smallest ≤ n) (small : n ≤ largest) (s : Steady n W) (r : Report) where
-  pub judged : (room : ℕ) → Judged n (W .plant) r room (stepRefusal (W .ring) r room)
-  unfolding stepRefusal firstMet reportConditions afterWord
-  judged room =
-      rw (steady-good s big small, word-refusal (r .part) (r .word) (cond (tooShort room (nextSheet (told (W .ring) r))) 8 0), sheet-is small (step-ready small s r), s .size)
-      (judge n (W .plant) r room small)
-
-  -- a served step's report names a part of the ring and a word for it
-  served-report : (buffer : List ℕ) → isServed (stepReply (W .ring) r buffer) ≡ true → InRing n (r .part) × (wordRefusal (r .part) (r .word) ≡ 0)
-  served-report buffer e = go (judged (length buffer)) (served-zero (refusal (W .ring) r buffer) (rw (step-outcome (W .ring) r buffer) at e))
-    where
-      go : {k : ℕ} → Judged n (W .plant) r (length buffer) k → k ≡ 0 → InRing n (r .part) × (wordRefusal (r .part) (r .word) ≡ 0)
-      go (met m) z = absurd (omega (arith, meets-positive m))
-      go (fine i w l) z = (i, w)
-
-  -- a call is refused exactly when a numbered refusal meets it
-  answered : (buffer : List ℕ) → Answered n W r buffer (stepReply (W .ring) r buffer)
-  unfolding refusedReply refusedAnswer
-  answered buffer = record {
-    exactly = λ k. (λ e. forth k (rw (step-outcome (W .ring) r buffer) at e), λ m. step-outcome (W .ring) r buffer ∙ back k m);
-    record-kept = λ e. rw (step-refused (W .ring) r buffer e);
-    buffer-kept = λ e. rw (step-refused (W .ring) r buffer e);
-  }
-    where
-      forth : (k : ℕ) → outcomeOf (refusal (W .ring) r buffer) ≡ outcome.Refused k → Meets n (W .plant) r (length buffer) k
-      forth k e = let t = refused-number (refusal (W .ring) r buffer) k e in go (judged (length buffer)) (t .0) (t .1)
-        where
-          go : {j : ℕ} → Judged n (W .plant) r (length buffer) j → j ≡ k → 0 < j → Meets n (W .plant) r (length buffer) k
-          go (met m) z l = rw z at m
-          go (fine i w h) z l = absurd (omega arith)
-
-      back : (k : ℕ) → Meets n (W .plant) r (length buffer) k → outcomeOf (refusal (W .ring) r buffer) ≡ outcome.Refused k
-      back k m = rw (← meets-only m (judged (length buffer))) (refused-outcome k (meets-positive m))
-
--- ---- after every call all is steady
 
 -- the health of a ring after a report that is not refused
 module _ {n : ℕ} {W : World} (small : n ≤ largest) (s : Steady n W) (r : Report) (inside : InRing n (r .part)) (word : wordRefusal (r .part) (r .word) ≡ 0) where
@@ -267,15 +84,6 @@ module _ {n : ℕ} {W : World} (small : n ≤ largest) (s : Steady n W) (r : Rep
       go (inl e) = absurd (omega (arith, ap number (same-eq p (r .part) e), inside .1))
       go (inr e) = rw e (s .above p i l .0)
 
--- every part of a blank ring is fit
-blank-fit : (n : ℕ) (p : Part) → InRing largest p → healthOf (blankRing n .health) p ≡ 0
-unfolding blankRing
-blank-fit n p i = health-places allFit p i
-
-pub start-ready : (n : ℕ) → n ≤ largest → Ready n (blankRing n) freshPlant
-unfolding blankRing
-start-ready n small = record { size = refl; health = λ p i. health-places allFit p (i .0, omega (arith, i .1)); standing = λ p i. command-places allOff p (i .0, omega (arith, i .1)) }
-
 -- what a buffer decodes to is one thing
 same-phases : {o : Option Phases} {x y : Phases} → o ≡ some x → o ≡ some y → x ≡ y
 same-phases {o} {x} {y} p q = cc
@@ -291,10 +99,10 @@ module _ (n : ℕ) (buffer : List ℕ) (big : smallest ≤ n) (small : n ≤ lar
       → decode n (stepReply (W .ring) r lending .buffer) ≡ some ph → Performed ph (afterWord r (W .plant)) Q
       → Steady n (record { plant = Q; ring = stepReply (W .ring) r lending .answer .ring; shown = stepReply (W .ring) r lending .answer .choices })
   step-steady {W} {ph} {Q} s r lending e d q =
-      let t = served-report big small s r lending e in
+      let t = served-fine big small s r lending e in
       let z = step-served (W .ring) r lending e in
       rw z
-      (transition-steady small (step-ready small s r) (told-kinds small s r (t .0) (t .1)) (told-above small s r (t .0) (t .1)) lending
+      (transition-steady small (step-ready small s r) (told-kinds small s r (t .inside) (t .word)) (told-above small s r (t .inside) (t .word)) lending
       (rw (same-phases (rw z at d) (served-decodes small (step-ready small s r) lending)) at q))
 
   pub ended-steady : {calls : Calls} {W : World} → Ended controller n buffer calls W → Steady n W
@@ -321,10 +129,10 @@ module _ {n : ℕ} {W : World} (small : n ≤ largest) (s : Steady n W) (b : ℕ
 
   bus-shown : BusShown n W b
   bus-shown = record {
-    de-energized-exactly = (
-      λ e g c. let t = reaches-usable hb c in de-energized-exactly n K b hb .0 (choice-dark n (plan n K b) (sym shown-is ∙ e)) g (t .0) (c .inside) (t .1),
-      λ f. shown-is ∙ none-dark (de-energized-exactly n K b hb .1 (λ g r hg u. f g (usable-reaches r hg hb u))),
-    );
+    dark-unreached = λ e g c.
+        let t = reaches-usable hb c in
+        de-energized-exactly n K b hb .0 (choice-dark n (plan n K b) (sym shown-is ∙ e)) g (t .0) (c .inside) (t .1);
+    unreached-dark = λ f. shown-is ∙ none-dark (de-energized-exactly n K b hb .1 (λ g r hg u. f g (usable-reaches r hg hb u)));
     energized = λ ne. fed-is ∙ energized (plan n K b) refl ne;
     de-energized = λ e. fed-is ∙ de-energized-fed n K b hb (choice-dark n (plan n K b) (sym shown-is ∙ e));
   }
@@ -332,6 +140,16 @@ module _ {n : ℕ} {W : World} (small : n ≤ largest) (s : Steady n W) (b : ℕ
       energized : (o : Option Path) → plan n K b ≡ o → shownAt W b ≢ choice.Dark → busFeed n K (commands n K) b ≡ feed.Fed (choiceSource (shownAt W b))
       energized none e ne = absurd (ne (shown-is ∙ none-dark e))
       energized (some w) e ne = rw (shown-is, e, choice-source n w) (energized-fed n K b w hb e)
+
+-- the record gives the plant's health and commands
+as-given : {n : ℕ} {W : World} → Steady n W → RecordGiven n W
+as-given s = record {
+  size = s .size;
+  health = s .health;
+  standing = s .standing;
+  health-above = λ p i l. s .above p i l .0;
+  commands-above = λ p i l. s .above p i l .1;
+}
 
 -- ---- interruptions
 
@@ -408,7 +226,13 @@ module _ (n : ℕ) (P₀ : PlantState) (rs : List Report) (stands : Fewer n (P�
 
 -- ---- demand 3
 
-module _ (n : ℕ) (buffer : List ℕ) (big : smallest ≤ n) (small : n ≤ largest) (begun : isServed (startReply n buffer) ≡ true) where
+module _ (n : ℕ) (buffer : List ℕ) (begun : isServed (startReply n buffer) ≡ true) where
+  big : smallest ≤ n
+  big = start-fine n buffer begun .big
+
+  small : n ≤ largest
+  small = start-fine n buffer begun .small
+
   start-chosen : AsChosen n freshPlant (startReply n buffer)
   start-chosen = rw (start-served n buffer begun) (as-chosen small (start-ready n small) buffer)
 
@@ -447,16 +271,20 @@ module _ (n : ℕ) (buffer : List ℕ) (big : smallest ≤ n) (small : n ≤ lar
   holds calls = record {
     ends = ends calls;
     shown = λ i h b hb. bus-shown small (steady h) b hb;
-    given = λ i h. let s = steady h in record { size = s .size; health = s .health; standing = s .standing; above = s .above };
+    given = λ i h. as-given (steady h);
     start-chosen = start-chosen;
     chosen = λ call i h e. pick call h e;
     no-clash = λ {P} m b g h hb. no-clash n (P .health) (P .last) b (clash-free m refl b hb) g h;
-    answered = λ r lending i h. answered big small (steady h) r lending;
+    answered = λ call i h. claimed call h;
   }
     where
       pick : {before : Calls} {W : World} (call : Call) → Ended controller n buffer before W → isServed (replyTo controller (W .ring) call) ≡ true
           → AsChosen n (afterWords (words call) (W .plant)) (replyTo controller (W .ring) call)
       pick (step r lending) h e = step-chosen (steady h) r lending e
 
+      claimed : {before : Calls} {W : World} (call : Call) → Ended controller n buffer before W
+          → Answered (Meets n (W .plant) call) (W .ring) (lent call) (replyTo controller (W .ring) call)
+      claimed (step r lending) h = step-answered big small (steady h) r lending
+
 pub demand3 : Demand3 controller
-demand3 = record { holds = λ n buffer big small begun calls. holds n buffer big small begun calls }
+demand3 = record { start-answered = start-answered; holds = holds }

@@ -9,10 +9,15 @@ pub mod Locality
 pub mod Demand3
 pub mod Operations
 pub mod Steady
+pub mod Answering
 pub mod Demand3Holds
 pub mod Demand2
 pub mod Priorities
 pub mod Demand2Holds
+pub mod Runs
+pub mod Claims
+pub mod Refuting
+pub mod Designs
 pub mod Wrong
 pub mod Records
 pub mod Settled

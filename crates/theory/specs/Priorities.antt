@@ -1,7 +1,7 @@
 -- What a bus tries: every generator once, and two paths from each, one from its own.
 use mathlib.Core.Path.{_≡_, refl, sym, _∙_, ap}
 use mathlib.Core.Bool.{Bool, true, false, not}
-use mathlib.Core.Logic.{_≢_, _⊎_, inl, inr}
+use mathlib.Core.Logic.{_≢_, _⊎_, inl, inr, _↔_}
 use mathlib.Core.List.{List, [], _∷_, _++_, flatMap, List·Memᴰ·head, List·Memᴰ·tail, List·Memᴰ·not-nil, List·Memᴰ·cases-cons, List·Memᴰ·append-cases}
 use mathlib.Core.List.{List·Memᴰ·eq-of-singleton, Memᴰ·append-left, Memᴰ·append-right, Memᴰ·cast}
 use Prim.Native.Nat.{ℕ, zero, suc, _+_, _*_, _≤_, _<_}
@@ -14,29 +14,41 @@ use Rattle.model.specs.Priority.{Path, others, sources, highRises, pathsFrom, p
 use Rattle.model.specs.Laws.Tests.{contra, dec, dec-eq}
 use Rattle.model.specs.Laws.Lists.{below-in, below-lt, below-length, keep-at, flat-at, rising-below, rising-keep}
 use Rattle.theory.specs.Paths.{sources-in, sources-at, others-at, from-at}
-use Rattle.theory.specs.Demand2 as d2
-use Rattle.theory.specs.Demand2.{Distinct, Priorities}
+
+-- ---- what is claimed
+
+-- a list without repeats
+pub data Distinct {A : Type 0} : List A → Type 0 where
+  nothing : Distinct []
+  one-more : {x : A} {xs : List A} → (x ∈ xs → ⊥) → Distinct xs → Distinct (x ∷ xs)
+
+-- what bus b tries: every generator once, and every path once, one from its own generator and two from each other
+pub record Priorities (n b : ℕ) : Type 0 where
+  pub every-source : (g : ℕ) → g ∈ sources n b ↔ (g < n)
+  pub source-once : Distinct (sources n b)
+  pub path-count : suc (length (paths n b)) ≡ 2 * n
+  pub path-once : Distinct (paths n b)
 
 -- ---- lists without repeats
 
 pub rising-distinct : {A : Type 0} {g : A → ℕ} {xs : List A} → RisingBy g xs → Distinct xs
-rising-distinct empty = d2.empty
-rising-distinct {g = g} (more {x = x} {xs = xs} l r) = d2.more out (rising-distinct r)
+rising-distinct empty = nothing
+rising-distinct {g = g} (more {x = x} {xs = xs} l r) = one-more out (rising-distinct r)
   where
     out : x ∈ xs → ⊥
     out m = omega (arith, l x m)
 
 distinct-snoc : {A : Type 0} {xs : List A} {y : A} → Distinct xs → (y ∈ xs → ⊥) → Distinct (xs ++ (y ∷ []))
-distinct-snoc d2.empty f = d2.more (λ m. List·Memᴰ·not-nil m) d2.empty
-distinct-snoc {y = y} (d2.more {x = x} {xs = xs} g d) f = d2.more (λ m. go (List·Memᴰ·append-cases xs m)) (distinct-snoc d (λ m. f (List·Memᴰ·tail m)))
+distinct-snoc nothing f = one-more (λ m. List·Memᴰ·not-nil m) nothing
+distinct-snoc {y = y} (one-more {x = x} {xs = xs} g d) f = one-more (λ m. go (List·Memᴰ·append-cases xs m)) (distinct-snoc d (λ m. f (List·Memᴰ·tail m)))
   where
     go : (x ∈ xs) ⊎ (x ∈ y ∷ []) → ⊥
     go (inl m) = g m
     go (inr m) = f (List·Memᴰ·head (sym (List·Memᴰ·eq-of-singleton m)))
 
 distinct-append : {A : Type 0} {xs ys : List A} → Distinct xs → Distinct ys → ((x : A) → x ∈ xs → x ∈ ys → ⊥) → Distinct (xs ++ ys)
-distinct-append d2.empty e f = e
-distinct-append {ys = ys} (d2.more {x = x} {xs = xs} g d) e f = d2.more (λ m. go (List·Memᴰ·append-cases xs m)) (distinct-append d e (λ y m k. f y (List·Memᴰ·tail m) k))
+distinct-append nothing e f = e
+distinct-append {ys = ys} (one-more {x = x} {xs = xs} g d) e f = one-more (λ m. go (List·Memᴰ·append-cases xs m)) (distinct-append d e (λ y m k. f y (List·Memᴰ·tail m) k))
   where
     go : (x ∈ xs) ⊎ (x ∈ ys) → ⊥
     go (inl m) = g m
@@ -64,7 +76,7 @@ rest-at n b g m =
 
 -- G2 and G1, then others
 two-first : {xs : List ℕ} → Distinct xs → ((g : ℕ) → g ∈ xs → 2 ≤ g) → Distinct (1 ∷ 0 ∷ xs)
-two-first {xs} d f = d2.more (λ m. one (List·Memᴰ·cases-cons m)) (d2.more (λ m. omega (arith, f 0 m)) d)
+two-first {xs} d f = one-more (λ m. one (List·Memᴰ·cases-cons m)) (one-more (λ m. omega (arith, f 0 m)) d)
   where
     one : (_≡_ {A = ℕ} 1 0) ⊎ (1 ∈ xs) → ⊥
     one (inl e) = omega arith
@@ -89,8 +101,8 @@ member-split (List·Memᴰ·tail {x = y} m) = let t = member-split m in (y ∷ t
 
 -- a list without repeats is no longer than one that has all its members
 pub distinct-shorter : {A : Type 0} {xs : List A} → Distinct xs → (ys : List A) → ((x : A) → x ∈ xs → x ∈ ys) → length xs ≤ length ys
-distinct-shorter d2.empty ys f = omega arith
-distinct-shorter {A} (d2.more {x = x} {xs = xs} g d) ys f = go (λ zs h. distinct-shorter d zs h) (member-split (f x (List·Memᴰ·head refl)))
+distinct-shorter nothing ys f = omega arith
+distinct-shorter {A} (one-more {x = x} {xs = xs} g d) ys f = go (λ zs h. distinct-shorter d zs h) (member-split (f x (List·Memᴰ·head refl)))
   where
     other : (front back : List A) (y : A) → y ∈ xs → (y ∈ front) ⊎ (y ∈ x ∷ back) → y ∈ front ++ back
     other front back y m (inl k) = Memᴰ·append-left back k
@@ -130,8 +142,8 @@ own-length n b g e = rw (eq-eqb g b e)
 flat-length : (n b : ℕ) {xs : List ℕ} → Distinct xs
     → (b ∈ xs → suc (length (flatMap (pathsFrom n b) xs)) ≡ 2 * length xs) × ((b ∈ xs → ⊥) → length (flatMap (pathsFrom n b) xs) ≡ 2 * length xs)
 unfolding flatMap
-flat-length n b d2.empty = (λ m. absurd (List·Memᴰ·not-nil m), λ f. refl)
-flat-length n b (d2.more {x = x} {xs = xs} g d) = go (flat-length n b d) (dec-eq x b)
+flat-length n b nothing = (λ m. absurd (List·Memᴰ·not-nil m), λ f. refl)
+flat-length n b (one-more {x = x} {xs = xs} g d) = go (flat-length n b d) (dec-eq x b)
   where
     joined : length (pathsFrom n b x ++ flatMap (pathsFrom n b) xs) ≡ length (pathsFrom n b x) + length (flatMap (pathsFrom n b) xs)
     joined = length-append (pathsFrom n b x) (flatMap (pathsFrom n b) xs)
@@ -151,7 +163,7 @@ unfolding pathsFrom
 from-distinct n b g = go (dec (eqb g b))
   where
     single : {A : Type 0} {x : A} → Distinct (x ∷ [])
-    single = d2.more (λ m. List·Memᴰ·not-nil m) d2.empty
+    single = one-more (λ m. List·Memᴰ·not-nil m) nothing
 
     differ : (r : Bool) → r ≡ not r → ⊥
     differ true e = contra refl e
@@ -159,12 +171,12 @@ from-distinct n b g = go (dec (eqb g b))
 
     go : (eqb g b ≡ true) ⊎ (eqb g b ≡ false) → Distinct (pathsFrom n b g)
     go (inl p) = rw p single
-    go (inr p) = rw p (d2.more (λ m. differ (highRises n g b) (ap (λ (w : Path). w .rising) (List·Memᴰ·eq-of-singleton m))) single)
+    go (inr p) = rw p (one-more (λ m. differ (highRises n g b) (ap (λ (w : Path). w .rising) (List·Memᴰ·eq-of-singleton m))) single)
 
 flat-distinct : (n b : ℕ) {xs : List ℕ} → Distinct xs → Distinct (flatMap (pathsFrom n b) xs)
 unfolding flatMap
-flat-distinct n b d2.empty = d2.empty
-flat-distinct n b (d2.more {x = x} {xs = xs} g d) = distinct-append (from-distinct n b x) (flat-distinct n b d) (λ w m k.
+flat-distinct n b nothing = nothing
+flat-distinct n b (one-more {x = x} {xs = xs} g d) = distinct-append (from-distinct n b x) (flat-distinct n b d) (λ w m k.
     let t = flat-at (pathsFrom n b) xs k in
     g (Memᴰ·cast (sym (from-at n b x w m .0) ∙ from-at n b (t .0) w (t .2) .0) (t .1)))
 

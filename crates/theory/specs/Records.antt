@@ -27,11 +27,12 @@ use Rattle.model.specs.Laws.Tests.{contra, dec, dec-lt, or-none, or-cases}
 use Rattle.model.specs.Laws.Lists.{any-in, any-none}
 use Rattle.model.specs.Laws.Parts.{at-index, parts-in, parts-at, same-eq, same-refl, is-places, places-ext, health-places}
 use Rattle.model.specs.Laws.Sheet.{sheet-fits}
+use Rattle.model.specs.Laws.Refusals.{good-size}
 use Rattle.theory.specs.Locality.{Agree, commands-ext, commands-held}
-use Rattle.theory.specs.Demand3.{afterWord, performed, World, isServed, wordRefusal, no-part, no-word, no-room}
+use Rattle.theory.specs.Demand3.{freshPlant, afterWord, performed, World, isServed, wordRefusal}
 use Rattle.theory.specs.Steady.{not-commanded, Steady, served-decodes, steady-good}
-use Rattle.theory.specs.Demand3Holds.{step-outcome, step-served, step-refused, start-served, zero-served, step-ready, start-ready, Judged, met, fine}
-use Rattle.theory.specs.Demand3Holds.{judged, refusal, start-steady, step-steady}
+use Rattle.theory.specs.Answering.{start-ready, start-served, fine-begun, step-ready, step-served, step-refused, StepFine, fine-served}
+use Rattle.theory.specs.Demand3Holds.{start-steady, step-steady}
 
 -- what start and steps make, refused steps too
 pub data Made : Ring → Type 0 where
@@ -81,16 +82,13 @@ unfolding ringFor healthPlaces commandPlaces
 ring-ext n H K small same = λ i. record {
   n = n;
   health = record {
-    generators = each (λ j. H (generator j)) (λ j. K (generator j)) (λ j h. same (generator j) (at-index largest j h)) i;
-    «generator_breakers» = each (λ j. H (generatorBreaker j)) (λ j. K (generatorBreaker j)) (λ j h. same (generatorBreaker j) (at-index largest j h)) i;
-    «bus_breakers» = each (λ j. H (busBreaker j)) (λ j. K (busBreaker j)) (λ j h. same (busBreaker j) (at-index largest j h)) i;
+    generators = places-ext (λ j. H (generator j)) (λ j. K (generator j)) (λ j h. same (generator j) (at-index largest j h)) i;
+    «generator_breakers» = places-ext (λ j. H (generatorBreaker j)) (λ j. K (generatorBreaker j)) (λ j h. same (generatorBreaker j) (at-index largest j h)) i;
+    «bus_breakers» = places-ext (λ j. H (busBreaker j)) (λ j. K (busBreaker j)) (λ j h. same (busBreaker j) (at-index largest j h)) i;
   };
   commands = commandPlaces (λ p. commands-ext n H K inside p i);
 }
   where
-    each : {A : Type 0} (f g : ℕ → A) → ((j : ℕ) → j < largest → f j ≡ g j) → places f ≡ places g
-    each f g h = places-ext f g h
-
     inside : Agree n H K
     inside p r = same p (r .0, omega (arith, r .1))
 
@@ -106,14 +104,10 @@ served-step : {n : ℕ} {W : World} → smallest ≤ n → n ≤ largest → Ste
     → stepReply (W .ring) r room .answer .ring ≡ withPlan (told (W .ring) r)
 unfolding servedReply servedAnswer
 served-step {n} {W} big small s r i w =
-    ap (λ (x : Reply). x .answer .ring)
-    (step-served (W .ring) r room (rw (step-outcome (W .ring) r room) (zero-served (refusal (W .ring) r room) (go (judged big small s r (length room))))))
-  where
-    go : {k : ℕ} → Judged n (W .plant) r (length room) k → k ≡ 0
-    go (met (no-part f)) = absurd (f i)
-    go (met (no-word j e)) = absurd (omega arith)
-    go (met (no-room j e l)) = absurd (omega (arith, l, room-length, sheet-fits n (W .plant .last) (commands n (afterWord r (W .plant) .health)) small))
-    go (fine j e l) = refl
+    let Q = afterWord r (W .plant) in
+    let fits = sheet-fits n (Q .last) (commands n (Q .health)) small in
+    let f : StepFine n (W .plant) r (length room) = record { inside = i; word = w; fits = omega (arith, room-length) } in
+    ap (λ (x : Reply). x .answer .ring) (step-served (W .ring) r room (fine-served big small s r room f))
 
 -- a word for a part's health, unless the part is fit
 Spoken : Part → ℕ → Type 0
@@ -141,15 +135,10 @@ word-for (Generator k) h e = go (or-cases (fit h) (stuckOff h) e)
 word-for (GeneratorBreaker k) h e = breaker-word (GeneratorBreaker k) h refl refl e
 word-for (BusBreaker k) h e = breaker-word (BusBreaker k) h refl refl e
 
-blank-size : (n : ℕ) → blankRing n .n ≡ n
-unfolding blankRing
-blank-size n = refl
-
 start-begun : (n : ℕ) → smallest ≤ n → n ≤ largest → isServed (startReply n room) ≡ true
-unfolding startReply servedReply servedAnswer startRefusal firstMet sizeOutside tooShort nextSheet
 start-begun n big small =
-    let fits = sheet-fits (blankRing n .n) (commandsOf (blankRing n .commands)) (planned (blankRing n)) (omega (arith, blank-size n)) in
-    rw (le-ltb n smallest big, le-ltb largest n small, le-ltb (length room) (length (sheet (blankRing n .n) (commandsOf (blankRing n .commands)) (planned (blankRing n)))) (omega (arith, room-length)))
+    let fits = sheet-fits n (freshPlant .last) (commands n (freshPlant .health)) small in
+    fine-begun n room (record { big = big; small = small; fits = omega (arith, room-length) })
 
 start-made : (n : ℕ) → smallest ≤ n → n ≤ largest → Made (ringFor n allFit)
 unfolding ringFor servedReply servedAnswer withPlan planned blankRing
@@ -247,13 +236,9 @@ module _ (ring : Ring) (good : badRecord ring ≡ false) where
       let c = or-none (activeAbove N H C) _ (b .1) in
       (a .0, b .0, c .0, or-none (unplanned N H C) false (c .1) .0)
 
-  bounds : (smallest ≤ N) × (N ≤ largest)
-  unfolding sizeOutside
-  bounds = let t = or-none (ltb N smallest) (ltb largest N) (conditions .0) in (ltb-false N smallest (t .0), ltb-false largest N (t .1))
-
   of-kind : (p : Part) → InRing N p → healthOfKind p (H p) ≡ true
   unfolding healthOutside
-  of-kind p i = not-false (healthOfKind p (H p)) (any-none (λ q. not (healthOfKind q (H q))) (conditions .1) (parts-in largest p (i .0, omega (arith, i .1, bounds .1))))
+  of-kind p i = not-false (healthOfKind p (H p)) (any-none (λ q. not (healthOfKind q (H q))) (conditions .1) (parts-in largest p (i .0, omega (arith, i .1, good-size ring good .1))))
 
   above-fit : (p : Part) → InRing largest p → N < number p → H p ≡ 0
   unfolding activeAbove
@@ -280,7 +265,7 @@ module _ (ring : Ring) (good : badRecord ring ≡ false) where
     standing = λ p i. refl;
     above = λ p i l. (above-fit p i l, above-off p i l);
     kinds = of-kind;
-    planned = λ p i. as-planned p (i .0, omega (arith, i .1, bounds .1));
+    planned = λ p i. as-planned p (i .0, omega (arith, i .1, good-size ring good .1));
     shown = refl;
   }
 
@@ -288,13 +273,13 @@ module _ (ring : Ring) (good : badRecord ring ≡ false) where
 pub step-good : (ring : Ring) → badRecord ring ≡ false → (r : Report) (buffer : List ℕ) → badRecord (stepReply ring r buffer .answer .ring) ≡ false
 unfolding Stands
 step-good ring good r buffer =
-    let t = step-stands (bounds ring good .0) (bounds ring good .1) (good-steady ring good) r buffer in
+    let t = step-stands (good-size ring good .0) (good-size ring good .1) (good-steady ring good) r buffer in
     rw (t .5) at (steady-good (t .4) (t .2) (t .3))
 
 module _ (ring : Ring) (arrays : Arrays ring) (good : badRecord ring ≡ false) where
   -- the health of all parts of the ring is the record's
   abbrev K : PartHealth
-  K = partial (ring .n) ((bounds ring good) .0) ((bounds ring good) .1) (healthOf (ring .health)) (of-kind ring good) (parts (ring .n))
+  K = partial (ring .n) ((good-size ring good) .0) ((good-size ring good) .1) (healthOf (ring .health)) (of-kind ring good) (parts (ring .n))
 
   same-health : (p : Part) → InRing largest p → (healthOf (ring .health)) p ≡ K p
   unfolding partial
@@ -308,7 +293,7 @@ module _ (ring : Ring) (arrays : Arrays ring) (good : badRecord ring ≡ false) 
 
   same-commands : (p : Part) → InRing largest p → (commandsOf (ring .commands)) p ≡ commands (ring .n) K p
   same-commands p i =
-      (as-planned ring good) p i ∙ commands-ext (ring .n) (healthOf (ring .health)) K (λ q j. same-health q (j .0, omega (arith, j .1, (bounds ring good) .1))) p
+      (as-planned ring good) p i ∙ commands-ext (ring .n) (healthOf (ring .health)) K (λ q j. same-health q (j .0, omega (arith, j .1, (good-size ring good) .1))) p
 
   is-ring : ring ≡ ringFor (ring .n) K
   unfolding ringFor healthPlaces commandPlaces healthOf commandsOf
@@ -337,7 +322,7 @@ module _ (ring : Ring) (arrays : Arrays ring) (good : badRecord ring ≡ false) 
 
   good-made : Made ring
   good-made =
-      rw is-ring (makes (ring .n) ((bounds ring good) .0) ((bounds ring good) .1) (healthOf (ring .health)) (of-kind ring good) (parts (ring .n)) (parts-at (ring .n)))
+      rw is-ring (makes (ring .n) ((good-size ring good) .0) ((good-size ring good) .1) (healthOf (ring .health)) (of-kind ring good) (parts (ring .n)) (parts-at (ring .n)))
 
 -- "record not one that start and steps make"
 pub made-exactly : (ring : Ring) → Arrays ring → badRecord ring ≡ false ↔ Made ring

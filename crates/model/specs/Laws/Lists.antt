@@ -248,6 +248,12 @@ module _ {A : Type 0} (f : A → Bool) where
   first-none [] h = refl
   first-none (x ∷ xs) h = rw (h x (List·Memᴰ·head refl)) (first-none xs (λ y m. h y (List·Memᴰ·tail m)))
 
+  -- elements that do not pass are passed by
+  pub first-past : (xs ys : List A) → ((x : A) → x ∈ xs → f x ≡ false) → first f (xs ++ ys) ≡ first f ys
+  unfolding first
+  first-past [] ys h = refl
+  first-past (x ∷ xs) ys h = rw (h x (List·Memᴰ·head refl)) (first-past xs ys (λ y m. h y (List·Memᴰ·tail m)))
+
   -- the only element that passes is the first
   pub first-only : (x : A) {xs : List A} → x ∈ xs → f x ≡ true → ((y : A) → y ∈ xs → f y ≡ true → y ≡ x) → first f xs ≡ some x
   first-only x {xs} m e only =
