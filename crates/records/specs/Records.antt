@@ -1,9 +1,10 @@
 -- The conditions of refusal 9.
 use mathlib.Core.Path.{_≡_, refl, sym}
 use mathlib.Core.Bool.{Bool, true, false, not, _&&_, _||_, Bool·beq, or-false}
+use mathlib.Core.Logic.{_⊎_, inl, inr, _≢_}
 use Prim.Native.Nat.{ℕ, _<_}
 use lib.Dec.{ltb}
-use borrow.Author.Tests.{lt-ltb, ltb-true}
+use borrow.Author.Tests.{lt-ltb, ltb-true, eq-eqb, ne-eqb}
 use Rattle.model.specs.declared.Part.{Part}
 use Rattle.model.specs.declared.Ring.{Ring}
 use Rattle.model.specs.declared.Commands.{Commands}
@@ -13,12 +14,24 @@ use Rattle.model.specs.Plant.{PartHealth, PartCommands, largest, parts, fit, In
 use Rattle.model.specs.Choosing.{commands}
 use Rattle.model.specs.Reports.{healthOf, commandsOf, commandPlaces}
 use Rattle.model.specs.Refusals.{sizeOutside, healthOutside, activeAbove, unplanned, badRecord}
+use Rattle.model.specs.Laws.Tests.{dec}
 use Rattle.model.specs.Laws.Lists.{any-ext}
 use Rattle.model.specs.Laws.Parts.{parts-at, some-part, no-part, command-places}
 
 -- "not fit or not ordered off or open"
 abbrev pub active : PartHealth → PartCommands → Part → Bool
 active H C p = not (fit (H p)) || C p
+
+module _ (h : ℕ) (c : Bool) where
+  pub unfit-active : (r : Bool) → (r ≡ false → ⊥) → h ≢ 0 → r ≡ not (fit h) || c
+  unfit-active r is e = rw (ne-eqb h 0 e) (go (dec r))
+    where
+      go : (r ≡ true) ⊎ (r ≡ false) → r ≡ true
+      go (inl f) = f
+      go (inr f) = absurd (is f)
+
+  pub fit-active : h ≡ 0 → c ≡ not (fit h) || c
+  fit-active e = rw (eq-eqb h 0 e)
 
 module _ (n : ℕ) (H : PartHealth) (C : PartCommands) where
   pub some-active : (p : Part) → InRing largest p → n < number p → active H C p ≡ true → activeAbove n H C ≡ true
