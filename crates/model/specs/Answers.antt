@@ -30,7 +30,7 @@ use Rattle.model.specs.Plant.{PartHealth, feeders, busFeed}
 use Rattle.model.specs.Choosing.{pathValues, planValues, choices}
 use Rattle.model.specs.Sheet.{written}
 use Rattle.model.specs.Reports.{fileSize, fileCount, places, healthOf, commandsOf, blankRing, told, withPlan}
-use Rattle.model.specs.Refusals.{startRefusal, stepRefusal, feedsRefusal, fileRefusal, codeRefusal, byteRefusal, reportAnswer, reportRefusal, nextSheet}
+use Rattle.model.specs.Refusals.{sheetRefusal, startRefusal, stepRefusal, feedsRefusal, fileRefusal, codeRefusal, byteRefusal, reportAnswer, reportRefusal, nextSheet}
 
 -- the part that a code names in a ring of n, or refusal 5
 unfoldable pub partAnswer : Option Part → PartAnswer
@@ -82,6 +82,10 @@ feedsAnswer n h c =
 unfoldable pub busValues : ℕ → Health → Commands → ℕ → List ℕ
 busValues n h c b =
     cond (eqb (feedsRefusal n (healthOf h)) 0 && ltb b n) (map suc (take 2 (feeders n (healthOf h) (commandsOf c) b))) []
+
+-- the lent buffer after a sheet was written, ".. and the buffer untouched" where 8 meets it
+unfoldable pub bufferAfter : List ℕ → List ℕ → List ℕ
+bufferAfter bytes buffer = cond (eqb (sheetRefusal (length buffer) bytes) 0) (written bytes buffer) buffer
 
 -- what a start or a step gives: its answer, and the lent buffer after the call
 pub record Reply : Type 0 where

@@ -6,3 +6,4 @@ pub mod Sheet
 pub mod Reports
 pub mod Refusals
 pub mod Appended
+pub mod Answers

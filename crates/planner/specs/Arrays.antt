@@ -14,6 +14,10 @@ use Rattle.model.specs.Reports.{places}
 use Rattle.model.specs.Laws.Tests.{dec-eq}
 use Rattle.model.specs.Laws.Parts.{places-length, places-at, is-places}
 
+-- what an array of numbers holds at each index
+abbrev pub at : List ℕ → ℕ → ℕ
+at l i = getD l i 0
+
 -- the list with x stored at each of the places is
 unfoldable pub setAll : {A : Type 0} → A → List ℕ → List A → List A
 setAll x [] l = l

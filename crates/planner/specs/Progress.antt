@@ -18,25 +18,24 @@ use Rattle.model.specs.declared.Health.{Health}
 use Rattle.model.specs.declared.Commands.{Commands}
 use Rattle.model.specs.Lists.{first, anyOf, _∈_}
 use Rattle.model.specs.Values.{samePart}
-use Rattle.model.specs.Plant.{PartHealth, largest, generator, generatorBreaker, busBreaker, stuckClosed, arc}
+use Rattle.model.specs.Plant.{PartHealth, largest, generator, generatorBreaker, busBreaker, stuckClosed}
 use Rattle.model.specs.Priority.{Path, pathParts, paths}
 use Rattle.model.specs.Choosing.{onPaths, countedClosed, permitted, choose, addPath, chosen, plan, commands, choiceOf, choices}
 use Rattle.model.specs.Reports.{places, healthOf, commandPlaces}
 use Rattle.model.specs.Laws.Tests.{iff, dec, dec-lt, below-other, below-last}
 use Rattle.model.specs.Laws.Lists.{any-at, any-in, first-at, first-ext}
 use Rattle.model.specs.Laws.Parts.{same-eq, same-refl, places-at, places-ext, places-set, set-places, is-places}
-use Rattle.theory.specs.Geometry.{arc-at, arc-in}
 use Rattle.theory.specs.Connected.{connected-ext}
-use Rattle.theory.specs.Paths.{lower, Ends, lower-lt, path-at, path-in, source-on, breaker-on, line-on, generator-on, generator-breaker-on, bus-breaker-on}
+use Rattle.theory.specs.Paths.{Ends, path-at, path-in, source-on, breaker-on, line-on, generator-on, generator-breaker-on, bus-breaker-on}
 use Rattle.theory.specs.Paths.{pathTo, tried-at}
 use Rattle.theory.specs.Choosing.{safe-chosen, chosen-ends}
-use Rattle.planner.specs.declared.Progress.{Progress}
-use Rattle.planner.specs.declared.Span.{Span}
-use Rattle.planner.specs.declared.Found.{Found}
-use Rattle.planner.specs.declared.Found.the-variants as found
-use Rattle.planner.specs.Arrays.{setAll, set-all-places, both}
-use Rattle.planner.specs.Walk.{reach, reach-at, reach-connected}
-use Rattle.planner.specs.Search.{spanOf, at, passesBy, pathFound}
+use Rattle.planner.specs.declared.progress.Progress.{Progress}
+use Rattle.planner.specs.declared.search.Span.{Span}
+use Rattle.planner.specs.declared.search.Found.{Found}
+use Rattle.planner.specs.declared.search.Found.the-variants as found
+use Rattle.planner.specs.Arrays.{at, setAll, set-all-places, both}
+use Rattle.planner.specs.Walk.{outward, outward-at, outward-in, closedBy, reach, reach-at, reach-connected}
+use Rattle.planner.specs.Search.{spanOf, passesBy, pathFound}
 use Rattle.planner.specs.Owner.{owner, mayFeed, pathSteps, passes, ends-in, owner-more, walk-choice}
 
 -- the choice of the bus served last
@@ -57,18 +56,18 @@ served n H b =
 abbrev pub breakersOf : PartHealth → ℕ → ℕ
 breakersOf H i = H (busBreaker i)
 
--- a bus breaker counts as closed: B has the health of each, l says which are on chosen paths
-abbrev pub closedBy : (ℕ → ℕ) → List Bool → ℕ → Bool
-closedBy B l i = stuckClosed (B i) || getD l i false
-
 -- the commands with a generator and its breaker on, and these bus breakers
 abbrev pub commandsWith : Progress → ℕ → List Bool → Commands
 commandsWith s g l = record { generators = set (s .commands .generators) g true; «generator_breakers» = set (s .commands .«generator_breakers») g true; «bus_breakers» = l }
 
+-- the bus breakers of path w, outward
+abbrev pub pathLine : ℕ → Path → List ℕ
+pathLine n w = outward n (w .rising) (w .source) (pathSteps n w)
+
 -- the progress with path w taken
 unfoldable pub taken : ℕ → PartHealth → Progress → Path → Progress
 taken n H s w =
-    let l = setAll true (arc n (lower w) (pathSteps n w)) (s .commands .«bus_breakers») in
+    let l = setAll true (pathLine n w) (s .commands .«bus_breakers») in
     let g = suc (w .source) in
     record {
       last = record { choice = choiceOf n (some w) };
@@ -78,7 +77,7 @@ taken n H s w =
 
 -- the same from what code finds on the way: what the path is called, its generator's number, its span, the breakers and the owners
 pub taken-by : (n : ℕ) (H : PartHealth) (s : Progress) (w : Path) (c : Choice) (g : ℕ) (p : Span) (l : List Bool) (o o′ : List ℕ)
-    → c ≡ choiceOf n (some w) → g ≡ suc (w .source) → p ≡ spanOf n w → l ≡ setAll true (arc n (p .from) (p .steps)) (s .commands .«bus_breakers»)
+    → c ≡ choiceOf n (some w) → g ≡ suc (w .source) → p ≡ spanOf n w → l ≡ setAll true (outward n (w .rising) (w .source) (p .steps)) (s .commands .«bus_breakers»)
     → o ≡ setAll g (reach n (closedBy (breakersOf H) l) true (w .bus) n) (s .owners) → o′ ≡ setAll g (reach n (closedBy (breakersOf H) l) false (w .bus) n) o
     → record { last = record { choice = c }; owners = o′; commands = commandsWith s (w .source) l } ≡ taken n H s w
 unfolding taken
@@ -117,22 +116,19 @@ module _ (n : ℕ) (ws : List Path) (w : Path) (part : ℕ → Part) (on : part 
       ∙ places-ext _ _ (λ v l. on-more n ws w (part v) (eqb v (w .source)) (λ e. rw (eqb-true v (w .source) e) on) (λ m. eq-eqb v (w .source) (only v m)))
 
 bus-breaker-more : (n : ℕ) (ws : List Path) (w : Path) (v : ℕ) → Ends n w
-    → cond (anyOf (eqb v) (arc n (lower w) (pathSteps n w))) true (onPaths n ws (busBreaker v)) ≡ onPaths n (w ∷ ws) (busBreaker v)
-bus-breaker-more n ws w v h = on-more n ws w (busBreaker v) (anyOf (eqb v) line) to from
+    → cond (anyOf (eqb v) (pathLine n w)) true (onPaths n ws (busBreaker v)) ≡ onPaths n (w ∷ ws) (busBreaker v)
+bus-breaker-more n ws w v h = on-more n ws w (busBreaker v) (anyOf (eqb v) (pathLine n w)) to from
   where
-    line : List ℕ
-    line = arc n (lower w) (pathSteps n w)
-
-    to : anyOf (eqb v) line ≡ true → busBreaker v ∈ pathParts n w
+    to : anyOf (eqb v) (pathLine n w) ≡ true → busBreaker v ∈ pathParts n w
     to e =
-        let t = any-at (eqb v) line e in
-        let u = arc-at n (lower w) (pathSteps n w) (t .0) (lower-lt h) (t .1) in
+        let t = any-at (eqb v) (pathLine n w) e in
+        let u = outward-at n (t .0) (w .rising) (w .source) (w .bus) (h .source) (h .bus) (t .1) in
         rw (eqb-true v (t .0) (t .2)) (line-on n w (path-in (t .0) h (u .0) (u .1)))
 
-    from : busBreaker v ∈ pathParts n w → anyOf (eqb v) line ≡ true
+    from : busBreaker v ∈ pathParts n w → anyOf (eqb v) (pathLine n w) ≡ true
     from m =
         let t = path-at v h (bus-breaker-on n w v m) in
-        any-in (eqb v) (arc-in n (lower w) (pathSteps n w) v (lower-lt h) (t .0) (t .1)) (eq-eqb v v refl)
+        any-in (eqb v) (outward-in n v (w .rising) (w .source) (w .bus) (h .source) (h .bus) (t .0) (t .1)) (eq-eqb v v refl)
 
 -- ---- serving a bus
 
@@ -161,11 +157,11 @@ module _ (n : ℕ) (H : PartHealth) (b : ℕ) (hb : b < n) where
     unfolding plan
     ends = chosen-ends n H (chosen n H b) b w hb e
 
-    lines : setAll true (arc n (lower w) (pathSteps n w)) (served n H b .commands .«bus_breakers») ≡ places (λ i. onPaths n (w ∷ chosen n H b) (busBreaker i))
+    lines : setAll true (pathLine n w) (served n H b .commands .«bus_breakers») ≡ places (λ i. onPaths n (w ∷ chosen n H b) (busBreaker i))
     unfolding served commandPlaces
     lines =
-        set-all-places (λ i. onPaths n (chosen n H b) (busBreaker i)) true (arc n (lower w) (pathSteps n w))
-        (λ i m. omega (arith, arc-at n (lower w) (pathSteps n w) i (lower-lt (ends .0)) m .0))
+        set-all-places (λ i. onPaths n (chosen n H b) (busBreaker i)) true (pathLine n w)
+        (λ i m. omega (arith, outward-at n i (w .rising) (w .source) (w .bus) (ends .0 .source) (ends .0 .bus) m .0))
         ∙ places-ext _ _ (λ v l. bus-breaker-more n (chosen n H b) w v (ends .0))
 
     commanded : (l : List Bool) → l ≡ places (λ i. onPaths n (w ∷ chosen n H b) (busBreaker i))
@@ -226,7 +222,7 @@ module _ (n : ℕ) (H : PartHealth) (b : ℕ) (hb : b < n) where
     pub served-path : taken n H (served n H b) w ≡ served n H (b + 1)
     unfolding taken addPath served
     served-path =
-        let l = setAll true (arc n (lower w) (pathSteps n w)) (served n H b .commands .«bus_breakers») in
+        let l = setAll true (pathLine n w) (served n H b .commands .«bus_breakers») in
         rw (chosen-next (some w) e, last-next, e, ← commanded l lines, ← owns l lines)
 
 -- by the arrays of a search and its answer f
@@ -247,16 +243,16 @@ module _ (n : ℕ) (h : Health) (b : ℕ) (usable : List Bool) (s : Progress) (f
       owners : ℕ → ℕ
       owners = at (served n (healthOf h) b .owners)
 
-  pub serve-dark : f ≡ found.Nothing → darkened s ≡ served n (healthOf h) (b + 1)
-  serve-dark e = rw is (served-dark n (healthOf h) b hb (rw e at found-plan))
+  pub serve-dark : {t : Progress} → f ≡ found.Nothing → t ≡ darkened s → t ≡ served n (healthOf h) (b + 1)
+  serve-dark e d = rw (d, is) (served-dark n (healthOf h) b hb (rw e at found-plan))
 
   module _ (g : ℕ) (r : Bool) (e : f ≡ found.Path g r) where
     pub serve-source : g < n
     unfolding plan
     serve-source = chosen-ends n (healthOf h) (chosen n (healthOf h) b) b (pathTo b g r) hb (rw e at found-plan) .0 .source
 
-    pub serve-path : taken n (healthOf h) s (pathTo b g r) ≡ served n (healthOf h) (b + 1)
-    serve-path = rw is (served-path n (healthOf h) b hb (pathTo b g r) hn (rw e at found-plan))
+    pub serve-path : {t : Progress} → t ≡ taken n (healthOf h) s (pathTo b g r) → t ≡ served n (healthOf h) (b + 1)
+    serve-path d = rw (d, is) (served-path n (healthOf h) b hb (pathTo b g r) hn (rw e at found-plan))
 
 -- ---- before the first bus and after the last
 

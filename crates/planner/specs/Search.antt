@@ -1,35 +1,33 @@
 -- The search over the sources of a bus and their paths: what a path is asked, and what is left to try.
-use mathlib.Core.Path.{_≡_, refl}
+use mathlib.Core.Path.{_≡_, refl, sym, _∙_}
 use mathlib.Core.Bool.{Bool, true, false, not, _&&_, cond}
 use mathlib.Core.Logic.{_⊎_, inl, inr, _≢_}
-use mathlib.Core.List.{List, [], _∷_, _++_, flatMap, List·Memᴰ·head, List·Memᴰ·tail}
+use mathlib.Core.List.{List, [], _∷_, _++_, flatMap}
 use mathlib.Core.Option.{Option, none, some}
 use Prim.Native.Nat.{ℕ, zero, suc, _+_, _≤_, _<_}
 use native.Mathlib.Omega.{arith}
 use native.Mathlib.Numerals.{add-one}
-use lib.Dec.{eqb}
+use lib.Dec.{ltb, eqb}
 use lib.ListN.{getD, drop, length, drop-of-length-le}
 use lib.Seq.{drop-cons}
-use borrow.Author.Tests.{eq-eqb, ne-eqb, le-leb}
-use Rattle.model.specs.Lists.{first, _∈_}
+use borrow.Author.Tests.{not-true, not-false, ltb-true, lt-ltb, le-ltb, eq-eqb, ne-eqb, le-leb}
+use Rattle.model.specs.Lists.{first}
 use Rattle.model.specs.Plant.{up}
 use Rattle.model.specs.Priority.{Path, sources, highRises, pathsFrom, paths}
-use Rattle.model.specs.Laws.Tests.{contra, and-left, and-right, and-intro, dec, dec-eq}
+use Rattle.model.specs.Laws.Tests.{contra, and-left, and-right, and-intro, dec, dec-eq, dec-lt}
+use Rattle.theory.specs.Geometry.{up-lt}
 use Rattle.theory.specs.Priorities.{sources-length}
-use Rattle.theory.specs.Paths.{lower, upper, Ends, lower-lt, upper-lt, pathTo, from-at}
-use Rattle.planner.specs.declared.Span.{Span}
-use Rattle.planner.specs.declared.Found.{Found}
-use Rattle.planner.specs.declared.Found.the-variants as found
+use Rattle.theory.specs.Paths.{lower, upper, Ends, lower-lt, upper-lt, pathTo}
+use Rattle.planner.specs.declared.search.Span.{Span}
+use Rattle.planner.specs.declared.search.Found.{Found}
+use Rattle.planner.specs.declared.search.Found.the-variants as found
+use Rattle.planner.specs.Arrays.{at}
 use Rattle.planner.specs.Walk.{free, clear-at}
 use Rattle.planner.specs.Owner.{pathSteps, clearPath, ends-in}
 
 -- the span of a path
 abbrev pub spanOf : ℕ → Path → Span
 spanOf n w = record { from = lower w; steps = pathSteps n w }
-
--- what an array holds at each index
-abbrev pub at : List ℕ → ℕ → ℕ
-at l i = getD l i 0
 
 -- what a search asks of a path, by its arrays
 unfoldable pub passesBy : ℕ → List Bool → List ℕ → List ℕ → Path → Bool
@@ -56,12 +54,20 @@ pathCount b g = cond (eqb g b) 1 2
 abbrev pub pathsAfter : ℕ → ℕ → ℕ → List Path
 pathsAfter n b r = flatMap (pathsFrom n b) (drop r (sources n b))
 
--- .. and before them those of generator g from path p on
-abbrev pub pathsLeft : ℕ → ℕ → ℕ → ℕ → ℕ → List Path
-pathsLeft n b r g p = drop p (pathsFrom n b g) ++ pathsAfter n b (r + 1)
+-- .. and before them those of the source at place r from path p on
+abbrev pub pathsLeft : ℕ → ℕ → ℕ → ℕ → List Path
+pathsLeft n b r p = drop p (pathsFrom n b (getD (sources n b) r 0)) ++ pathsAfter n b (r + 1)
 
-pub span-lt : (n b g : ℕ) (r : Bool) → b < n → g < n → lower (pathTo b g r) < n
-span-lt n b g r hb hg = lower-lt {w = pathTo b g r} (record { source = hg; bus = hb })
+-- what a turn of the search finds: generator g has a path p to bus b, and it passes
+unfoldable pub triedBy : ℕ → List Bool → List ℕ → List ℕ → ℕ → ℕ → ℕ → Bool
+triedBy n usable breakers owners b g p = ltb p (pathCount b g) && passesBy n usable breakers owners (pathTo b g (pathRises n b g p))
+
+-- a path's span begins in the ring and has fewer breakers than the ring
+pub span-lt : (n b g : ℕ) (r : Bool) → b < n → g < n → (spanOf n (pathTo b g r) .from < n) × (spanOf n (pathTo b g r) .steps < n)
+span-lt n b g r hb hg =
+    let w = pathTo b g r in
+    let h : Ends n w = record { source = hg; bus = hb } in
+    (lower-lt h, up-lt n (lower w) (upper w) (lower-lt h) (upper-lt h))
 
 -- ---- the paths of one generator
 
@@ -88,66 +94,114 @@ paths-done n b g p l = go (dec (eqb g b))
     go (inl e) = rw e (drop-of-length-le (pathTo b b true ∷ []) (rw e at l))
     go (inr e) = rw e (drop-of-length-le (pathTo b g (highRises n g b) ∷ pathTo b g (not (highRises n g b)) ∷ []) (rw e at l))
 
+count-most : (b g p : ℕ) → 2 ≤ p → pathCount b g ≤ p
+count-most b g p l = go (dec (eqb g b))
+  where
+    go : (eqb g b ≡ true) ⊎ (eqb g b ≡ false) → pathCount b g ≤ p
+    go (inl e) = rw e (omega arith)
+    go (inr e) = rw e l
+
+-- ---- one turn
+
+-- a path that passes is a candidate's
+pub passes-candidate : (n : ℕ) (usable : List Bool) (breakers owners : List ℕ) (w : Path) → Ends n w → passesBy n usable breakers owners w ≡ true
+    → candidateBy usable owners (w .bus) (w .source) ≡ true
+unfolding passesBy
+passes-candidate n usable breakers owners w h p =
+    let u = getD usable (w .source) false in
+    let c = clear-at n (at breakers) (at owners) (suc (w .source)) (upper w) (upper-lt h) (pathSteps n w) (lower w) (lower-lt h) refl (and-right u _ p) in
+    and-intro u _ (and-left u _ p)
+    (and-intro (free (getD owners (w .bus) 0) (suc (w .source))) _ (c .buses (w .bus) (ends-in h .1)) (c .buses (w .source) (ends-in h .0)))
+
+module _ (n : ℕ) (usable : List Bool) (breakers owners : List ℕ) (b g p : ℕ) where
+  -- the generator has no such path
+  pub tried-none : pathCount b g ≤ p → false ≡ triedBy n usable breakers owners b g p
+  unfolding triedBy
+  tried-none l = rw (le-ltb p (pathCount b g) l)
+
+  -- it is no candidate
+  pub tried-no-candidate : {k : Bool} → b < n → g < n → k ≡ candidateBy usable owners b g → not k ≡ true → false ≡ triedBy n usable breakers owners b g p
+  unfolding triedBy
+  tried-no-candidate {k} hb hg e out = go (dec (triedBy n usable breakers owners b g p))
+    where
+      w : Path
+      w = pathTo b g (pathRises n b g p)
+
+      go : (triedBy n usable breakers owners b g p ≡ true) ⊎ (triedBy n usable breakers owners b g p ≡ false) → false ≡ triedBy n usable breakers owners b g p
+      go (inl q) = contra (passes-candidate n usable breakers owners w (record { source = hg; bus = hb }) (and-right (ltb p (pathCount b g)) _ q)) (sym e ∙ not-true k out)
+      go (inr q) = sym q
+
+  -- a candidate's path passes as its walk says
+  pub tried-walk : {k rising t : Bool} → p < pathCount b g → k ≡ candidateBy usable owners b g → not k ≡ false → rising ≡ pathRises n b g p
+      → t ≡ clearPath n (at breakers) (at owners) (pathTo b g rising) → t ≡ triedBy n usable breakers owners b g p
+  unfolding triedBy passesBy
+  tried-walk {k} l c is e d = rw (lt-ltb p (pathCount b g) l, ← e, and-left (getD usable g false) _ (sym c ∙ not-false k is), d)
+
 -- ---- what the search has left
 
-first-past : {A : Type 0} (f : A → Bool) (xs ys : List A) → ((x : A) → x ∈ xs → f x ≡ false) → first f (xs ++ ys) ≡ first f ys
-unfolding first
-first-past f [] ys h = refl
-first-past f (x ∷ xs) ys h = rw (h x (List·Memᴰ·head refl)) (first-past f xs ys (λ y m. h y (List·Memᴰ·tail m)))
+-- nothing is found yet, and the whole search is the search of the paths ws
+pub record Left (n : ℕ) (usable : List Bool) (breakers owners : List ℕ) (b : ℕ) (f : Found) (ws : List Path) : Type 0 where
+  pub nothing : f ≡ found.Nothing
+  pub left : first (passesBy n usable breakers owners) (paths n b) ≡ first (passesBy n usable breakers owners) ws
 
-module _ (n b : ℕ) (f : Path → Bool) where
-  pub left-start : first f (paths n b) ≡ first f (pathsAfter n b 0)
-  unfolding paths
-  left-start = refl
-
-  -- the next generator
-  pub left-source : (r g : ℕ) → b < n → r < n → g ≡ getD (sources n b) r 0 → first f (pathsAfter n b r) ≡ first f (pathsLeft n b r g 0)
+module _ {n : ℕ} {usable : List Bool} {breakers owners : List ℕ} {b : ℕ} {f : Found} where
+  -- the next generator: all of its paths are left
+  pub left-source : (r : ℕ) → b < n → r < n → Left n usable breakers owners b f (pathsAfter n b r) → Left n usable breakers owners b f (pathsLeft n b r 0)
   unfolding flatMap
-  left-source r g hb hr e = rw (drop-cons (sources n b) r 0 (rw (sources-length n b hb) hr), add-one r, e)
+  left-source r hb hr l = record {
+    nothing = l .nothing;
+    left = l .left ∙ rw (drop-cons (sources n b) r 0 (rw (sources-length n b hb) hr), add-one r);
+  }
 
-  -- none of its paths passes
-  pub left-skip : (r g : ℕ) → ((w : Path) → w .source ≡ g → w .bus ≡ b → f w ≡ false) → first f (pathsLeft n b r g 0) ≡ first f (pathsAfter n b (r + 1))
-  left-skip r g h = first-past f (pathsFrom n b g) (pathsAfter n b (r + 1)) (λ w m. let t = from-at n b g w m in h w (t .0) (t .1))
+  -- its path p does not pass
+  pub left-miss : (r p : ℕ) {g : ℕ} {t : Bool} → g ≡ getD (sources n b) r 0 → t ≡ triedBy n usable breakers owners b g p → t ≡ false
+      → Left n usable breakers owners b f (pathsLeft n b r p) → Left n usable breakers owners b f (pathsLeft n b r (p + 1))
+  unfolding triedBy first
+  left-miss r p e d z l = record { nothing = l .nothing; left = l .left ∙ go (dec-lt p (pathCount b s)) }
+    where
+      s : ℕ
+      s = getD (sources n b) r 0
 
-  -- its next path does not pass, or does
-  pub left-miss : (r g p : ℕ) → p < pathCount b g → f (pathTo b g (pathRises n b g p)) ≡ false → first f (pathsLeft n b r g p) ≡ first f (pathsLeft n b r g (p + 1))
-  unfolding first
-  left-miss r g p l e = rw (paths-next n b g p l, e)
+      missed : triedBy n usable breakers owners b s p ≡ false
+      missed = rw e at (sym d ∙ z)
 
-  pub left-hit : (r g p : ℕ) → p < pathCount b g → f (pathTo b g (pathRises n b g p)) ≡ true → first f (pathsLeft n b r g p) ≡ some (pathTo b g (pathRises n b g p))
-  unfolding first
-  left-hit r g p l e = rw (paths-next n b g p l, e)
+      go : (p < pathCount b s) ⊎ (pathCount b s ≤ p) → first (passesBy n usable breakers owners) (pathsLeft n b r p) ≡ first (passesBy n usable breakers owners) (pathsLeft n b r (p + 1))
+      go (inl h) = rw (paths-next n b s p h, rw (lt-ltb p (pathCount b s) h) at missed)
+      go (inr h) = rw (paths-done n b s p h, paths-done n b s (p + 1) (omega arith))
 
-  -- it has no path more, and there is no generator more
-  pub left-next : (r g p : ℕ) → pathCount b g ≤ p → first f (pathsLeft n b r g p) ≡ first f (pathsAfter n b (r + 1))
-  left-next r g p l = rw (paths-done n b g p l)
+  -- or does
+  pub left-hit : (r p : ℕ) {g : ℕ} {t rising : Bool} → g ≡ getD (sources n b) r 0 → t ≡ triedBy n usable breakers owners b g p → t ≡ true
+      → rising ≡ pathRises n b g p → Left n usable breakers owners b f (pathsLeft n b r p) → some (pathTo b g rising) ≡ first (passesBy n usable breakers owners) (paths n b)
+  unfolding triedBy first
+  left-hit r p e d z q l = rw (q, e) (sym (l .left ∙ rw (paths-next n b s p count, passed)))
+    where
+      s : ℕ
+      s = getD (sources n b) r 0
 
-  pub left-none : (r : ℕ) → b < n → n ≤ r → first f (pathsAfter n b r) ≡ none
+      found : triedBy n usable breakers owners b s p ≡ true
+      found = rw e at (sym d ∙ z)
+
+      count : p < pathCount b s
+      count = omega (arith, ltb-true p (pathCount b s) (and-left (ltb p (pathCount b s)) _ found))
+
+      passed : passesBy n usable breakers owners (pathTo b s (pathRises n b s p)) ≡ true
+      passed = and-right (ltb p (pathCount b s)) _ found
+
+  -- it has no path more
+  pub left-next : (r p : ℕ) → 2 ≤ p → Left n usable breakers owners b f (pathsLeft n b r p) → Left n usable breakers owners b f (pathsAfter n b (r + 1))
+  left-next r p h l = record {
+    nothing = l .nothing;
+    left = l .left ∙ rw (paths-done n b (getD (sources n b) r 0) p (count-most b (getD (sources n b) r 0) p h));
+  }
+
+  -- there is no generator more
+  pub left-none : (r : ℕ) → b < n → n ≤ r → Left n usable breakers owners b f (pathsAfter n b r) → pathFound b f ≡ first (passesBy n usable breakers owners) (paths n b)
   unfolding first flatMap
-  left-none r hb l = let z : length (sources n b) ≤ r = omega (arith, sources-length n b hb) in rw (drop-of-length-le (sources n b) z)
+  left-none r hb h l =
+      let z : length (sources n b) ≤ r = omega (arith, sources-length n b hb) in
+      rw (l .nothing) (sym (l .left ∙ rw (drop-of-length-le (sources n b) z)))
 
--- a generator that is no candidate has no path that passes
-pub no-candidate : (n : ℕ) (usable : List Bool) (breakers owners : List ℕ) (b g : ℕ) → b < n → g < n → candidateBy usable owners b g ≡ false
-    → (w : Path) → w .source ≡ g → w .bus ≡ b → passesBy n usable breakers owners w ≡ false
-unfolding passesBy
-no-candidate n usable breakers owners b g hb hg e w s t = go (dec (passesBy n usable breakers owners w))
-  where
-    h : Ends n w
-    h = record { source = rw s hg; bus = rw t hb }
-
-    asked : passesBy n usable breakers owners w ≡ true → candidateBy usable owners (w .bus) (w .source) ≡ true
-    asked p =
-        let u = getD usable (w .source) false in
-        let c = clear-at n (at breakers) (at owners) (suc (w .source)) (upper w) (upper-lt h) (pathSteps n w) (lower w) (lower-lt h) refl (and-right u _ p) in
-        and-intro u _ (and-left u _ p) (and-intro (free (getD owners (w .bus) 0) (suc (w .source))) _ (c .buses (w .bus) (ends-in h .1)) (c .buses (w .source) (ends-in h .0)))
-
-    go : (passesBy n usable breakers owners w ≡ true) ⊎ (passesBy n usable breakers owners w ≡ false) → passesBy n usable breakers owners w ≡ false
-    go (inl p) = contra (rw (s, t) at (asked p)) e
-    go (inr p) = p
-
--- path p of a candidate passes as its walk says
-pub candidate-walk : (n : ℕ) (usable : List Bool) (breakers owners : List ℕ) (b g p : ℕ) (rising t : Bool) → candidateBy usable owners b g ≡ true
-    → rising ≡ pathRises n b g p
-    → t ≡ clearPath n (at breakers) (at owners) (pathTo b g rising) → passesBy n usable breakers owners (pathTo b g (pathRises n b g p)) ≡ t
-unfolding passesBy
-candidate-walk n usable breakers owners b g p rising t c e d = rw (← e, and-left (getD usable g false) _ c, d)
+-- before the first turn
+pub left-start : (n : ℕ) (usable : List Bool) (breakers owners : List ℕ) (b : ℕ) → Left n usable breakers owners b found.Nothing (pathsAfter n b 0)
+unfolding paths
+left-start n usable breakers owners b = record { nothing = refl; left = refl }

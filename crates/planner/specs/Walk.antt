@@ -6,13 +6,13 @@ use mathlib.Core.List.{List, [], _∷_, List·Memᴰ·head, List·Memᴰ·tail, 
 use Prim.Native.Nat.{ℕ, zero, suc, _+_, _-_, _≤_, _<_}
 use native.Mathlib.Omega.{arith}
 use lib.Dec.{eqb}
-use lib.ListN.{set}
+use lib.ListN.{getD, set}
 use borrow.Author.Tests.{eqb-true, eq-eqb, ne-eqb, not-true}
 use Rattle.model.specs.Lists.{anyOf, _∈_}
-use Rattle.model.specs.Plant.{stuckOpen, next, up, arc, Leads, stay, rise, fall, connected}
+use Rattle.model.specs.Plant.{stuckOpen, stuckClosed, next, up, arc, Leads, stay, rise, fall, connected}
 use Rattle.model.specs.Laws.Tests.{not-of, and-left, and-right, and-intro, or-cases, or-left, or-right, iff, dec, dec-eq}
 use Rattle.model.specs.Laws.Lists.{any-at, any-in}
-use Rattle.theory.specs.Geometry.{Next, more, last, next-cases, next-lt, up-refl, up-zero, up-lt, up-next, up-next-right}
+use Rattle.theory.specs.Geometry.{Next, more, last, next-cases, next-lt, up-refl, up-zero, up-lt, up-next, up-next-right, up-inj, arc-at, arc-in}
 use Rattle.theory.specs.Connected.{Arc, leads-arcs, connected-leads, leads-connected}
 use Rattle.planner.specs.Arrays.{setAll}
 
@@ -109,7 +109,7 @@ module _ (n : ℕ) (B O : ℕ → ℕ) (g k : ℕ) where
   unfolding clear
   clear-end m l = let z : m ≡ 0 = omega arith in rw z
 
--- ---- out from a bus
+-- ---- out from a bus, and the breakers of a path
 
 -- the bus before bus k
 unfoldable pub previous : ℕ → ℕ → ℕ
@@ -127,13 +127,28 @@ next-previous n k hk = go (dec-eq k 0)
     go (inl e) = rw (eq-eqb k 0 e) (omega arith, at (n - 1) (omega arith) (next-cases n (n - 1) (omega arith)) (λ l. e) (λ l. absurd (omega arith)))
     go (inr e) = rw (ne-eqb k 0 e) (omega arith, at (k - 1) (omega arith) (next-cases n (k - 1) (omega arith)) (λ l. absurd (omega arith)) (λ l. omega arith))
 
--- the bus breaker at bus k on its rising or its falling side, and the bus behind it
+-- one step less leads from bus a to the bus before bus k
+pub up-previous : (n a k : ℕ) → a < n → k < n → a ≢ k → up n a k ≡ suc (up n a (previous n k))
+up-previous n a k ha hk ne =
+    let p = next-previous n k hk in
+    rw (p .1) at (up-next-right n a (previous n k) ha (p .0) (λ q. ne (sym q ∙ p .1)))
+
+-- the bus breaker at bus k on its rising or its falling side
 abbrev pub breakerBeside : ℕ → Bool → ℕ → ℕ
 breakerBeside n r k = cond r k (previous n k)
 
 -- .. and the bus behind it
 abbrev pub busBeside : ℕ → Bool → ℕ → ℕ
 busBeside n r k = cond r (next n k) (previous n k)
+
+-- the m bus breakers met from bus k on one side
+unfoldable pub outward : ℕ → Bool → ℕ → ℕ → List ℕ
+outward n r k zero = []
+outward n r k (suc m) = breakerBeside n r k ∷ outward n r (busBeside n r k) m
+
+-- a bus breaker counts as closed: B has the health of each, l says which are on chosen paths
+abbrev pub closedBy : (ℕ → ℕ) → List Bool → ℕ → Bool
+closedBy B l i = stuckClosed (B i) || getD l i false
 
 -- bus k and those after it on one side while the breakers between are closed, m at most
 unfoldable pub reach : ℕ → (ℕ → Bool) → Bool → ℕ → ℕ → List ℕ
@@ -155,6 +170,59 @@ breaker-lt n false k hk = next-previous n k hk .0
 pub bus-lt : (n : ℕ) (r : Bool) (k : ℕ) → k < n → busBeside n r k < n
 bus-lt n true k hk = next-lt n k hk
 bus-lt n false k hk = next-previous n k hk .0
+
+-- the breakers met outward on a path of m steps are those of its arc
+module _ (n v : ℕ) where
+  outward-rising : (m k : ℕ) → outward n true k m ≡ arc n k m
+  unfolding outward arc
+  outward-rising zero k = refl
+  outward-rising (suc m) k = rw (outward-rising m (next n k))
+
+  module _ (e : ℕ) (he : e < n) where
+    nearer-falling : (m k : ℕ) → k < n → up n e k ≡ suc m → up n e (previous n k) ≡ m
+    nearer-falling m k hk z = omega (arith, up-previous n e k he hk (λ q. omega (arith, rw (← q) at z, up-refl n e he)))
+
+    falling-at : (m k : ℕ) → k < n → up n e k ≡ m → v ∈ outward n false k m → (v < n) × (up n e v < m)
+    unfolding outward
+    falling-at zero k hk z i = absurd (List·Memᴰ·not-nil i)
+    falling-at (suc m) k hk z i = go (falling-at m p hp) (nearer-falling m k hk z) (List·Memᴰ·cases-cons i)
+      where
+        p : ℕ
+        p = previous n k
+
+        hp : p < n
+        hp = next-previous n k hk .0
+
+        go : (up n e p ≡ m → v ∈ outward n false p m → (v < n) × (up n e v < m)) → up n e p ≡ m → (v ≡ p) ⊎ (v ∈ outward n false p m)
+            → (v < n) × (up n e v < suc m)
+        go f y (inl q) = rw q (hp, omega arith)
+        go f y (inr j) = let t = f y j in (t .0, omega (arith, t .1))
+
+    falling-in : (m k : ℕ) → k < n → up n e k ≡ m → v < n → up n e v < m → v ∈ outward n false k m
+    unfolding outward
+    falling-in zero k hk z hv l = absurd (omega arith)
+    falling-in (suc m) k hk z hv l = go (falling-in m p hp) (nearer-falling m k hk z) (dec-eq (up n e v) m)
+      where
+        p : ℕ
+        p = previous n k
+
+        hp : p < n
+        hp = next-previous n k hk .0
+
+        go : (up n e p ≡ m → v < n → up n e v < m → v ∈ outward n false p m) → up n e p ≡ m → (up n e v ≡ m) ⊎ (up n e v ≢ m)
+            → v ∈ p ∷ outward n false p m
+        go f y (inl q) = List·Memᴰ·head (up-inj n e v p he hv hp (q ∙ sym y))
+        go f y (inr q) = List·Memᴰ·tail (f y hv (omega arith))
+
+  pub outward-at : (r : Bool) (g b : ℕ) → g < n → b < n → v ∈ outward n r g (up n (cond r g b) (cond r b g))
+      → (v < n) × (up n (cond r g b) v < up n (cond r g b) (cond r b g))
+  outward-at true g b hg hb i = arc-at n g (up n g b) v hg (rw (outward-rising (up n g b) g) at i)
+  outward-at false g b hg hb i = falling-at b hb (up n b g) g hg refl i
+
+  pub outward-in : (r : Bool) (g b : ℕ) → g < n → b < n → v < n → up n (cond r g b) v < up n (cond r g b) (cond r b g)
+      → v ∈ outward n r g (up n (cond r g b) (cond r b g))
+  outward-in true g b hg hb hv l = rw (outward-rising (up n g b) g) (arc-in n g (up n g b) v hg hv l)
+  outward-in false g b hg hb hv l = falling-in b hb (up n b g) g hg refl hv l
 
 module _ (n : ℕ) (C : ℕ → Bool) where
   beside-leads : (r : Bool) (k v : ℕ) → k < n → C (breakerBeside n r k) ≡ true → Leads n C (busBeside n r k) v → Leads n C k v
@@ -187,19 +255,10 @@ module _ (n : ℕ) (C : ℕ → Bool) where
       on : (i : ℕ) → i < n → up n (next n k) i < up n (next n k) v → (k ≡ i) ⊎ (k ≢ i) → C i ≡ true
       on i hi l (inl e) = rw (← e) here
       on i hi l (inr e) = f i hi (omega (arith, far, up-next n k i hk hi e))
-  step false k v hk hv ne f = (f p hp (omega (arith, far)), (λ i hi l. f i hi (omega (arith, far))), far)
+  step false k v hk hv ne f = (f (previous n k) (next-previous n k hk .0) (omega (arith, far)), (λ i hi l. f i hi (omega (arith, far))), far)
     where
-      p : ℕ
-      p = previous n k
-
-      hp : p < n
-      hp = next-previous n k hk .0
-
-      e : next n p ≡ k
-      e = next-previous n k hk .1
-
-      far : up n v k ≡ suc (up n v p)
-      far = rw e at (up-next-right n v p hv hp (λ q. ne (sym e ∙ q)))
+      far : up n v k ≡ suc (up n v (previous n k))
+      far = up-previous n v k hv hk (λ q. ne (sym q))
 
   reach-in : (r : Bool) (m k v : ℕ) → k < n → v < n → Closed n C r k v → steps n r k v < m → v ∈ reach n C r k m
   unfolding reach
@@ -241,13 +300,14 @@ module _ (n : ℕ) (C : ℕ → Bool) where
 -- ---- stores on the way, at bus k of a walk of m steps of which d are done
 
 module _ {A : Type 0} (x : A) (n k m d : ℕ) (l : List A) where
-  pub arc-step : d < m → setAll x (arc n k (m - d)) l ≡ setAll x (arc n (next n k) (m - (d + 1))) (set l k x)
-  unfolding arc setAll
-  arc-step h = let z : m - d ≡ suc (m - (d + 1)) = omega arith in rw z
+  pub outward-step : (r : Bool) → d < m
+      → setAll x (outward n r k (m - d)) l ≡ setAll x (outward n r (busBeside n r k) (m - (d + 1))) (set l (breakerBeside n r k) x)
+  unfolding outward setAll
+  outward-step r h = let z : m - d ≡ suc (m - (d + 1)) = omega arith in rw z
 
-  pub arc-end : m ≤ d → setAll x (arc n k (m - d)) l ≡ l
-  unfolding arc setAll
-  arc-end h = let z : m - d ≡ 0 = omega arith in rw z
+  pub outward-end : (r : Bool) → m ≤ d → setAll x (outward n r k (m - d)) l ≡ l
+  unfolding outward setAll
+  outward-end r h = let z : m - d ≡ 0 = omega arith in rw z
 
   module _ (C : ℕ → Bool) (r : Bool) where
     pub reach-step : d < m → C (breakerBeside n r k) ≡ true → setAll x (reach n C r k (m - d)) l ≡ setAll x (reach n C r (busBeside n r k) (m - (d + 1))) (set l k x)
@@ -261,3 +321,8 @@ module _ {A : Type 0} (x : A) (n k m d : ℕ) (l : List A) where
     pub reach-end : m ≤ d → setAll x (reach n C r k (m - d)) l ≡ l
     unfolding reach setAll
     reach-end h = let z : m - d ≡ 0 = omega arith in rw z
+
+-- no steps, no store
+pub outward-none : {A : Type 0} (x : A) (n k m : ℕ) (l : List A) (r : Bool) → m ≡ 0 → setAll x (outward n r k m) l ≡ l
+unfolding outward setAll
+outward-none x n k m l r e = rw e

@@ -3,12 +3,14 @@ ghost use mathlib.Core.Path.{_≡_};
 ghost use Prim.Native.Nat.{_+_, _*_, _≤_};
 ghost use lib.ListN.{length, take, replicate};
 ghost use Rattle.model.specs.Lists.{below, anyOf};
+ghost use Rattle.model.specs.Values.{outcomeNumber, outcomeOf};
 ghost use Rattle.model.specs.Reports.{commandsOf};
 ghost use Rattle.model.specs.Sheet.{sheet, written};
+ghost use Rattle.model.specs.Refusals.{sheetRefusal};
+ghost use Rattle.model.specs.Answers.{bufferAfter};
 ghost use Rattle.model.specs.Laws.Appended.{Appended};
 ghost use Rattle.sheet.specs.Codes.{changes, opens, closes, codes, openingCodes, closingCodes};
 ghost use Rattle.sheet.specs.Layout.{layout};
-ghost use Rattle.sheet.specs.Writing.{roomOutcome, firstOutcome, writeOutcome, bufferAfter};
 use model::Commands;
 use model::Outcome;
 
@@ -40,9 +42,18 @@ fn collect(
     closing: &mut [u8; 60],
     counts: Counts,
 ) -> Counts
-    requires { ⌜ (n ≤ 20) × (base ≤ 64) × (counts .opening + n ≤ 60) × (counts .closing + n ≤ 60) ⌝ }
-    ensures opening_phase { λ r. ⌜ Appended (codes (opens (now (old .entry)) (now (new .entry))) base n) (now (opening .entry)) (counts .opening) (now (opening .exit)) (r .opening) ⌝ }
-    ensures closing_phase { λ r. ⌜ Appended (codes (closes (now (old .entry)) (now (new .entry))) base n) (now (closing .entry)) (counts .closing) (now (closing .exit)) (r .closing) ⌝ }
+    requires size { ⌜ n ≤ 20 ⌝ }
+    requires kind { ⌜ base ≤ 64 ⌝ }
+    requires opening_fits { ⌜ counts .opening + n ≤ 60 ⌝ }
+    requires closing_fits { ⌜ counts .closing + n ≤ 60 ⌝ }
+    ensures opening_phase { λ r. ⌜
+        Appended (codes (opens (now (old .entry)) (now (new .entry))) base n)
+        (now (opening .entry)) (counts .opening) (now (opening .exit)) (r .opening)
+        ⌝ }
+    ensures closing_phase { λ r. ⌜
+        Appended (codes (closes (now (old .entry)) (now (new .entry))) base n)
+        (now (closing .entry)) (counts .closing) (now (closing .exit)) (r .closing)
+        ⌝ }
     ensures most { λ r. ⌜ (r .opening ≤ counts .opening + n) × (r .closing ≤ counts .closing + n) ⌝ }
 {
     if !differ(old, new) {
@@ -116,7 +127,9 @@ fn phases(
 
 // Stores the first `count` codes from `at` on, and answers the place behind them.
 fn copy(codes: &[u8; 60], count: usize, buffer: &mut [u8], at: usize) -> usize
-    requires { ⌜ (length (now codes) ≡ 60) × (count ≤ 60) × (at + count ≤ length (now buffer)) ⌝ }
+    requires held { ⌜ length (now codes) ≡ 60 ⌝ }
+    requires most { ⌜ count ≤ 60 ⌝ }
+    requires room { ⌜ at + count ≤ length (now buffer) ⌝ }
     ensures stored { λ r. ⌜ Appended (take count (now (codes .entry))) (now (buffer .entry)) at (now (buffer .exit)) r ⌝ }
     ensures behind { λ r. ⌜ r ≡ at + count ⌝ }
 {
@@ -128,7 +141,7 @@ fn copy(codes: &[u8; 60], count: usize, buffer: &mut [u8], at: usize) -> usize
 
 // Stores a command `times` times from `at` on, and answers the place behind them.
 fn fill(command: u8, times: usize, buffer: &mut [u8], at: usize) -> usize
-    requires { ⌜ at + times ≤ length (now buffer) ⌝ }
+    requires room { ⌜ at + times ≤ length (now buffer) ⌝ }
     ensures stored { λ r. ⌜ Appended (replicate times command) (now (buffer .entry)) at (now (buffer .exit)) r ⌝ }
     ensures behind { λ r. ⌜ r ≡ at + times ⌝ }
 {
@@ -141,8 +154,17 @@ fn fill(command: u8, times: usize, buffer: &mut [u8], at: usize) -> usize
 // "The order sheet has its sizes first (one byte each: first wave, second wave), then two parallel arrays: the part codes of both
 // waves, then the orders (0 off or open, 1 on or closed)."
 fn lay_out(opening: &[u8; 60], closing: &[u8; 60], counts: Counts, buffer: &mut [u8])
-    requires { ⌜ (length (now opening) ≡ 60) × (length (now closing) ≡ 60) × (counts .opening ≤ 60) × (counts .closing ≤ 60) × (2 + 2 * (counts .opening + counts .closing) ≤ length (now buffer)) ⌝ }
-    ensures { λ r. ⌜ now (buffer .exit) ≡ written (layout (take (counts .opening) (now (opening .entry))) (take (counts .closing) (now (closing .entry)))) (now (buffer .entry)) ⌝ }
+    requires opening_held { ⌜ length (now opening) ≡ 60 ⌝ }
+    requires closing_held { ⌜ length (now closing) ≡ 60 ⌝ }
+    requires opening_most { ⌜ counts .opening ≤ 60 ⌝ }
+    requires closing_most { ⌜ counts .closing ≤ 60 ⌝ }
+    requires room { ⌜ 2 + 2 * (counts .opening + counts .closing) ≤ length (now buffer) ⌝ }
+    ensures { λ r. ⌜
+        now (buffer .exit)
+        ≡ written
+        (layout (take (counts .opening) (now (opening .entry))) (take (counts .closing) (now (closing .entry))))
+        (now (buffer .entry))
+        ⌝ }
 {
     let opened = counts.opening;
     let closed = counts.closing;
@@ -154,45 +176,26 @@ fn lay_out(opening: &[u8; 60], closing: &[u8; 60], counts: Counts, buffer: &mut 
     fill(1, closed, buffer, closing_commands);
 }
 
-// Refusal 8 where a buffer is shorter than a sheet of these phases, "2 + 2k bytes".
-fn check_room(counts: Counts, room: usize) -> Outcome
-    requires { ⌜ (counts .opening ≤ 60) × (counts .closing ≤ 60) ⌝ }
-    ensures { λ r. ⌜ r ≡ roomOutcome room (2 + 2 * (counts .opening + counts .closing)) ⌝ }
-{
-    if room < 2 + 2 * (counts.opening + counts.closing) {
-        return Outcome::Refused(8);
-    }
-    Outcome::Served
-}
-
-// The outcome of two checks, one after the other.
-fn first_of(earlier: Outcome, later: Outcome) -> Outcome
-    ensures { λ r. ⌜ r ≡ firstOutcome earlier later ⌝ }
-{
-    match earlier {
-        Outcome::Served => later,
-        Outcome::Refused(number) => Outcome::Refused(number),
-    }
-}
-
-// Writes the sheet that leads from the old commands to the new, unless the checks before it have refused the call, or the buffer is
-// shorter. An inner call: n is at most 20, which its callers have checked.
-pub fn write(n: u8, old: Commands, new: Commands, checked: Outcome, buffer: &mut [u8]) -> Outcome
+// Writes the sheet that leads from the old commands to the new, unless the buffer is shorter. An inner call: n is at most 20, which
+// its callers have checked.
+pub fn write(n: u8, old: Commands, new: Commands, buffer: &mut [u8]) -> Outcome
     requires { ⌜ n ≤ 20 ⌝ }
-    ensures answer { λ r. ⌜ r ≡ writeOutcome checked (sheet n (commandsOf old) (commandsOf new)) (now (buffer .entry)) ⌝ }
-    ensures bytes { λ r. ⌜ now (buffer .exit) ≡ bufferAfter r (sheet n (commandsOf old) (commandsOf new)) (now (buffer .entry)) ⌝ }
+    ensures answer { λ r. ⌜
+        r ≡ outcomeOf (sheetRefusal (length (now (buffer .entry))) (sheet n (commandsOf old) (commandsOf new)))
+        ⌝ }
+    ensures number { λ r. ⌜
+        outcomeNumber r ≡ sheetRefusal (length (now (buffer .entry))) (sheet n (commandsOf old) (commandsOf new))
+        ⌝ }
+    ensures bytes { λ r. ⌜ now (buffer .exit) ≡ bufferAfter (sheet n (commandsOf old) (commandsOf new)) (now (buffer .entry)) ⌝ }
 {
     // A ring has at most 60 parts, and so has a phase.
     let mut opening = [0u8; 60];
     let mut closing = [0u8; 60];
     let counts = phases(n as usize, old, new, &mut opening, &mut closing);
-    let room = check_room(counts, buffer.len());
-    // "A step checks 9, 5, 6, 7, 8": 8 is the last. A refused call leaves "the buffer untouched".
-    match first_of(checked, room) {
-        Outcome::Served => {
-            lay_out(&opening, &closing, counts, buffer);
-            Outcome::Served
-        }
-        Outcome::Refused(number) => Outcome::Refused(number),
+    // 8: "order buffer shorter than the sheet", "2 + 2k bytes".
+    if buffer.len() < 2 + 2 * (counts.opening + counts.closing) {
+        return Outcome::Refused(8);
     }
+    lay_out(&opening, &closing, counts, buffer);
+    Outcome::Served
 }

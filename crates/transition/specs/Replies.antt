@@ -1,94 +1,69 @@
 -- The replies to a start and to a step, by the checks that they pass.
-use mathlib.Core.Path.{_≡_, refl, _∙_, ap}
+use mathlib.Core.Path.{_≡_, refl, sym, _∙_, ap}
 use mathlib.Core.Bool.{Bool, true, false, cond}
 use mathlib.Core.List.{List}
 use Prim.Native.Nat.{ℕ, _≤_}
-use lib.Dec.{eqb}
 use lib.ListN.{length}
-use Rattle.model.specs.declared.Health.{Health}
+use borrow.Author.Tests.{ne-eqb}
 use Rattle.model.specs.declared.Report.{Report}
 use Rattle.model.specs.declared.Ring.{Ring}
 use Rattle.model.specs.declared.RingAnswer.{RingAnswer}
 use Rattle.model.specs.declared.Outcome.{Outcome}
 use Rattle.model.specs.declared.Outcome.the-variants.{Served, Refused}
-use Rattle.model.specs.Values.{outcomeOf, wordNumber}
+use Rattle.model.specs.Values.{wordNumber, outcomeOf}
 use Rattle.model.specs.Plant.{smallest, largest}
-use Rattle.model.specs.Reports.{allFit, healthOf, healthPlaces, blankRing}
-use Rattle.model.specs.Refusals.{firstMet, notOfRing, wordOfOtherKind, generatorFitAgain, tooShort, badRecord, nextSheet, nextHealth, reportConditions}
-use Rattle.model.specs.Refusals.{startRefusal, stepRefusal}
-use Rattle.model.specs.Answers.{Reply, refusedReply, servedReply, startReply, stepReply}
-use Rattle.model.specs.Laws.Refusals.{inside, good-size, served-refused}
-use Rattle.sheet.specs.Writing.{roomOutcome, firstOutcome, writeOutcome}
-use Rattle.transition.specs.Advance.{refusedAnswer, replyBy, advanceReply, Gives, advance-held}
+use Rattle.model.specs.Reports.{blankRing, told}
+use Rattle.model.specs.Refusals.{firstMet, orElse, notOfRing, wordOfOtherKind, generatorFitAgain, tooShort, badRecord, nextSheet}
+use Rattle.model.specs.Refusals.{reportConditions, sheetRefusal, startRefusal, stepRefusal}
+use Rattle.model.specs.Answers.{refusedAnswer}
+use Rattle.model.specs.Laws.Refusals.{inside, served-zero, refused-number}
+use Rattle.model.specs.Laws.Answers.{Gives, gives-refused}
 
--- ---- start
+-- the start of a ring of a good size: 8 is left
+module _ (n : ℕ) (big : smallest ≤ n) (small : n ≤ largest) where
+  start-refusal : (room : ℕ) → startRefusal n room ≡ sheetRefusal room (nextSheet (blankRing n))
+  unfolding startRefusal sheetRefusal firstMet
+  start-refusal room = rw (inside n big small)
 
-module _ (n : ℕ) (big : smallest ≤ n) (small : n ≤ largest) (buffer : List ℕ) where
-  -- condition 8
-  short : Bool
-  short = tooShort (length buffer) (nextSheet (blankRing n) allFit)
+  pub start-advanced : (ring kept : Ring) → ring ≡ blankRing n → kept ≡ blankRing 0 → (buffer : List ℕ) (a : RingAnswer) (after : List ℕ)
+      → Gives (sheetRefusal (length buffer) (nextSheet ring)) ring kept buffer a after
+      → Gives (startRefusal n (length buffer)) (blankRing n) (blankRing 0) buffer a after
+  start-advanced ring kept e f buffer a after gives = rw (start-refusal (length buffer)) (rw (e, f) at gives)
 
-  -- the reply where condition 8 is met or not; a refused ring is kept
-  by-eight : Ring → Bool → Reply
-  by-eight kept t = cond t (refusedReply 8 kept buffer) (servedReply (blankRing n) allFit buffer)
+-- the step of a good record: 5, 6 and 7 come before 8
+module _ (ring : Ring) (good : badRecord ring ≡ false) (r : Report) where
+  -- the refusal of the report
+  abbrev report-refusal : ℕ
+  report-refusal = firstMet (reportConditions (ring .n) r)
 
-  start-is : startReply n buffer ≡ by-eight (blankRing 0) short
-  unfolding startReply startRefusal firstMet by-eight short
-  start-is = rw (inside n big small) (go short)
+  step-refusal : (room : ℕ) → stepRefusal ring r room ≡ orElse report-refusal (sheetRefusal room (nextSheet (told ring r)))
+  unfolding stepRefusal sheetRefusal firstMet reportConditions
+  step-refusal room =
+      rw good
+      (go
+      (notOfRing (ring .n) (r .part))
+      (wordOfOtherKind (r .part) (wordNumber (r .word)))
+      (generatorFitAgain (r .part) (wordNumber (r .word))))
     where
-      go : (t : Bool) → cond (eqb (cond t 8 0) 0) (servedReply (blankRing n) allFit buffer) (refusedReply (cond t 8 0) (blankRing 0) buffer) ≡ by-eight (blankRing 0) t
-      go true = refl
-      go false = refl
+      eight : ℕ
+      eight = sheetRefusal room (nextSheet (told ring r))
 
-  advance-is : advanceReply Served (blankRing n) allFit buffer ≡ by-eight (blankRing n) short
-  unfolding advanceReply writeOutcome roomOutcome outcomeOf refusedReply tooShort by-eight short
-  advance-is = go short
-    where
-      go : (t : Bool) → replyBy (outcomeOf (cond t 8 0)) (blankRing n) allFit buffer ≡ by-eight (blankRing n) t
-      go true = refl
-      go false = refl
+      go : (five six seven : Bool) → cond five 5 (cond six 6 (cond seven 7 eight)) ≡ orElse (cond five 5 (cond six 6 (cond seven 7 0))) eight
+      go true six seven = refl
+      go false true seven = refl
+      go false false true = refl
+      go false false false = refl
 
-  -- a blank ring taken to its own health, all parts fit
-  module _ (ring : Ring) (blank : ring ≡ blankRing n) (after : List ℕ) (a : RingAnswer) (gives : Gives a after (advanceReply Served ring (healthOf (ring .health)) buffer)) where
-    advanced : Gives a after (by-eight (blankRing n) short)
-    unfolding blankRing
-    advanced = rw (advance-held (blankRing n) allFit buffer small Served ∙ advance-is) at (rw blank at gives)
+  -- the outcome of the report's checks
+  module _ (buffer : List ℕ) (o : Outcome) (checked : o ≡ outcomeOf report-refusal) (a : RingAnswer) where
+    pub step-advanced : o ≡ Served → (next : Ring) → next ≡ told ring r → (after : List ℕ)
+        → Gives (sheetRefusal (length buffer) (nextSheet next)) next ring buffer a after
+        → Gives (stepRefusal ring r (length buffer)) (told ring r) ring buffer a after
+    step-advanced e next is after gives = rw (step-refusal (length buffer), served-zero checked e) (rw is at gives)
 
-    pub start-served : a .outcome ≡ Served → Gives a after (startReply n buffer)
-    unfolding by-eight refusedReply outcomeOf
-    start-served e = rw start-is (go short advanced)
-      where
-        go : (t : Bool) → Gives a after (by-eight (blankRing n) t) → Gives a after (by-eight (blankRing 0) t)
-        go true g = served-refused e (ap (λ (x : RingAnswer). x .outcome) (g .0))
-        go false g = g
-
-    pub start-refused : (k : ℕ) → a .outcome ≡ Refused k → (r : RingAnswer) → r ≡ refusedAnswer k (blankRing 0) → Gives r after (startReply n buffer)
-    unfolding by-eight refusedReply servedReply outcomeOf
-    start-refused k e r is = rw start-is (go short advanced)
-      where
-        go : (t : Bool) → Gives a after (by-eight (blankRing n) t) → Gives r after (by-eight (blankRing 0) t)
-        go true g = let z : a .outcome ≡ Refused 8 = ap (λ (x : RingAnswer). x .outcome) (g .0) in let y : k ≡ 8 = cc in (rw y at is, g .1)
-        go false g = served-refused (ap (λ (x : RingAnswer). x .outcome) (g .0)) e
-
--- ---- step
-
-module _ (ring : Ring) (good : badRecord ring ≡ false) (r : Report) (buffer : List ℕ) where
-  -- 5, 6 and 7 come before 8
-  step-is : advanceReply (outcomeOf (firstMet (reportConditions (ring .n) r))) ring (nextHealth ring r) buffer ≡ stepReply ring r buffer
-  unfolding stepReply stepRefusal firstMet reportConditions advanceReply writeOutcome roomOutcome tooShort refusedReply outcomeOf
-  step-is = rw good
-      (go (notOfRing (ring .n) (r .part)) (wordOfOtherKind (r .part) (wordNumber (r .word))) (generatorFitAgain (r .part) (wordNumber (r .word)))
-      (tooShort (length buffer) (nextSheet ring (nextHealth ring r))))
-    where
-      go : (five six seven eight : Bool)
-          → replyBy (firstOutcome (outcomeOf (cond five 5 (cond six 6 (cond seven 7 0)))) (outcomeOf (cond eight 8 0))) ring (nextHealth ring r) buffer
-          ≡ (let k = cond five 5 (cond six 6 (cond seven 7 (cond eight 8 0))) in cond (eqb k 0) (servedReply ring (nextHealth ring r) buffer) (refusedReply k ring buffer))
-      go true six seven eight = refl
-      go false true seven eight = refl
-      go false false true eight = refl
-      go false false false true = refl
-      go false false false false = refl
-
-  pub step-advance : (checked : Outcome) → checked ≡ outcomeOf (firstMet (reportConditions (ring .n) r)) → (h : Health) → h ≡ healthPlaces (nextHealth ring r)
-      → (a : RingAnswer) (after : List ℕ) → Gives a after (advanceReply checked ring (healthOf h) buffer) → Gives a after (stepReply ring r buffer)
-  step-advance checked e h is a after g = rw (advance-held ring (nextHealth ring r) buffer (good-size ring good .1) _ ∙ step-is) at (rw (is, e) at g)
+    pub step-refused : (j : ℕ) → o ≡ Refused j → a ≡ refusedAnswer j ring
+        → Gives (stepRefusal ring r (length buffer)) (told ring r) ring buffer a buffer
+    step-refused j e is =
+        let z = refused-number checked j e in
+        let k : stepRefusal ring r (length buffer) ≡ report-refusal = step-refusal (length buffer) ∙ rw (ne-eqb report-refusal 0 (z .1)) in
+        rw k (gives-refused _ _ _ _ _ (z .1) (is ∙ ap (λ l. refusedAnswer l ring) (sym (z .0))))

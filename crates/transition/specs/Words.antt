@@ -3,7 +3,7 @@ use mathlib.Core.Path.{_≡_, refl, sym, _∙_}
 use mathlib.Core.Bool.{cond}
 use mathlib.Core.Logic.{_⊎_, inl, inr, _≢_}
 use mathlib.Core.List.{List}
-use Prim.Native.Nat.{ℕ, zero, suc, _-_, _≤_, _<_}
+use Prim.Native.Nat.{ℕ, suc, _<_}
 use native.Mathlib.Omega.{arith}
 use lib.Dec.{eqb}
 use lib.ListN.{length, getD, set, length-set}
@@ -33,17 +33,14 @@ module _ (l : List ℕ) (v : ℕ) (full : length l ≡ largest) where
       apart i b (inl p) e = omega arith
       apart i b (inr p) e = omega arith
 
-  -- a store at a place
-  pub at-place : (k : ℕ) → 1 ≤ k → set l (k - 1) v ≡ places (withValue l k v)
+  -- a store at the place of a number
+  pub at-place : (k i : ℕ) → suc i ≡ k → set l i v ≡ places (withValue l k v)
   unfolding withValue
-  at-place zero h = absurd (omega arith)
-  at-place (suc j) h =
-      let e : suc j - 1 ≡ j = omega arith in
-      rw e (is-places (withValue l (suc j) v) (set l j v) 0 (length-set l j v ∙ full) (λ i b. at i b (dec-eq i j)))
+  at-place k j e = is-places (withValue l k v) (set l j v) 0 (length-set l j v ∙ full) (λ i b. at i b (dec-eq i j))
     where
-      at : (i : ℕ) → i < largest → (i ≡ j) ⊎ (i ≢ j) → getD (set l j v) i 0 ≡ withValue l (suc j) v i
-      at i b (inl e) = rw (e, eq-eqb (suc j) (suc j) refl) (getD-set-same l j v 0 (omega arith))
-      at i b (inr e) = rw (ne-eqb (suc i) (suc j) (λ z. e (omega arith))) (getD-set-other l j i v 0 e)
+      at : (i : ℕ) → i < largest → (i ≡ j) ⊎ (i ≢ j) → getD (set l j v) i 0 ≡ withValue l k v i
+      at i b (inl f) = rw (f, eq-eqb (suc j) k e) (getD-set-same l j v 0 (omega arith))
+      at i b (inr f) = rw (ne-eqb (suc i) k (λ z. f (omega arith))) (getD-set-other l j i v 0 f)
 
 -- the array of a part's kind
 abbrev pub arrayOf : Health → Part → List ℕ

@@ -2,11 +2,13 @@
 ghost use mathlib.Core.Path.{_≡_};
 ghost use mathlib.Core.Bool.{false};
 ghost use Prim.Native.Nat.{_≤_};
-ghost use Rattle.model.specs.Reports.{places, healthOf, healthPlaces, reported, blankRing};
-ghost use Rattle.model.specs.Refusals.{badRecord};
-ghost use Rattle.model.specs.Answers.{startReply, stepReply};
+ghost use lib.ListN.{length};
+ghost use Rattle.model.specs.Values.{outcomeNumber, choiceValues};
+ghost use Rattle.model.specs.Reports.{places, healthOf, healthPlaces, reported, blankRing, told as toldRing};
+ghost use Rattle.model.specs.Refusals.{badRecord, nextSheet, sheetRefusal, startRefusal, stepRefusal};
+ghost use Rattle.model.specs.Answers.{refusedAnswer, startReply, stepReply, callValues};
+ghost use Rattle.model.specs.Laws.Answers.{replyBy};
 ghost use Rattle.transition.specs.Words.{withValue};
-ghost use Rattle.transition.specs.Advance.{refusedAnswer, advanceReply};
 use model::BusChoice;
 use model::Choice;
 use model::Commands;
@@ -46,18 +48,29 @@ fn with_word(health: Health, report: Report) -> Health
             next
         }
         Part::GeneratorBreaker(number) => {
-            let breakers = next.generator_breakers;
-            let reported = with_value(breakers, number, value);
+            let generator_breakers = next.generator_breakers;
+            let reported = with_value(generator_breakers, number, value);
             next.generator_breakers = reported;
             next
         }
         Part::BusBreaker(number) => {
-            let breakers = next.bus_breakers;
-            let reported = with_value(breakers, number, value);
+            let bus_breakers = next.bus_breakers;
+            let reported = with_value(bus_breakers, number, value);
             next.bus_breakers = reported;
             next
         }
     }
+}
+
+// What a report does to a ring before any command: its word's effect on the health.
+pub fn told(ring: Ring, report: Report) -> Ring
+    ensures { λ r. ⌜ r ≡ toldRing ring report ⌝ }
+{
+    let before = ring.health;
+    let after = with_word(before, report);
+    let mut next = ring;
+    next.health = after;
+    next
 }
 
 // n buses, "every part fit and ordered off or open".
@@ -94,46 +107,48 @@ pub fn refused(number: u8, ring: Ring) -> RingAnswer
     }
 }
 
-// A ring taken to another health: "gives the new record, each bus's choice and the sheet", unless the checks before it have refused the
-// call, or 8 does. The new state is the old one with the fields that the health changes.
-fn advance(ring: Ring, health: Health, checked: Outcome, buffer: &mut [u8]) -> RingAnswer
+// A ring that was told its reports, taken to the commands that its health calls for: "gives the new record, each bus's choice and the
+// sheet", or the ring kept where 8 refuses.
+fn advance(ring: Ring, kept: Ring, buffer: &mut [u8]) -> RingAnswer
     requires { ⌜ (3 ≤ ring .n) × (ring .n ≤ 20) ⌝ }
-    ensures answer { λ r. ⌜ r ≡ advanceReply checked ring (healthOf health) (now (buffer .entry)) .answer ⌝ }
-    ensures bytes { λ r. ⌜ now (buffer .exit) ≡ advanceReply checked ring (healthOf health) (now (buffer .entry)) .buffer ⌝ }
+    ensures answer { λ r. ⌜
+        r ≡ replyBy (sheetRefusal (length (now (buffer .entry))) (nextSheet ring)) ring kept (now (buffer .entry)) .answer
+        ⌝ }
+    ensures bytes { λ r. ⌜
+        now (buffer .exit) ≡ replyBy (sheetRefusal (length (now (buffer .entry))) (nextSheet ring)) ring kept (now (buffer .entry)) .buffer
+        ⌝ }
+    ensures number { λ r. ⌜ outcomeNumber (r .outcome) ≡ sheetRefusal (length (now (buffer .entry))) (nextSheet ring) ⌝ }
+    ensures values { λ r. ⌜
+        choiceValues (r .choices) ≡ callValues (sheetRefusal (length (now (buffer .entry))) (nextSheet ring)) ring
+        ⌝ }
 {
-    let planned = planner::plan(ring.n, health);
+    let planned = planner::plan(ring.n, ring.health);
     let old = ring.commands;
     let new = planned.commands;
     let choices = planned.choices;
     let mut next = ring;
-    next.health = health;
     next.commands = new;
-    match sheet::write(ring.n, old, new, checked, buffer) {
+    match sheet::write(ring.n, old, new, buffer) {
         Outcome::Served => RingAnswer {
             outcome: Outcome::Served,
             ring: next,
             choices,
         },
-        Outcome::Refused(number) => refused(number, ring),
+        Outcome::Refused(number) => refused(number, kept),
     }
 }
 
-// "Starting a ring takes n and gives the record with all parts fit, each bus's choice and the sheet of its first orders." An inner
-// call: n is from 3 to 20, which its callers have checked.
+// "Starting a ring takes n and gives the record with all parts fit, each bus's choice and the sheet of its first orders." "A refused
+// start has a record with n = 0 and every part fit and ordered off or open." An inner call: n is from 3 to 20, which its callers have
+// checked.
 pub fn start(n: u8, buffer: &mut [u8]) -> RingAnswer
     requires { ⌜ (3 ≤ n) × (n ≤ 20) ⌝ }
     ensures answer { λ r. ⌜ r ≡ startReply n (now (buffer .entry)) .answer ⌝ }
     ensures bytes { λ r. ⌜ now (buffer .exit) ≡ startReply n (now (buffer .entry)) .buffer ⌝ }
+    ensures number { λ r. ⌜ outcomeNumber (r .outcome) ≡ startRefusal n (length (now (buffer .entry))) ⌝ }
+    ensures values { λ r. ⌜ choiceValues (r .choices) ≡ callValues (startRefusal n (length (now (buffer .entry)))) (blankRing n) ⌝ }
 {
-    let ring = blank(n);
-    let health = ring.health;
-    let answer = advance(ring, health, Outcome::Served, buffer);
-    let outcome = answer.outcome;
-    match outcome {
-        Outcome::Served => answer,
-        // "A refused start has a record with n = 0 and every part fit and ordered off or open."
-        Outcome::Refused(number) => refused(number, blank(0)),
-    }
+    advance(blank(n), blank(0), buffer)
 }
 
 // "A step takes a record and a report, and gives the new record, each bus's choice and the sheet." An inner call: refusal 9 does not
@@ -142,8 +157,14 @@ pub fn step(ring: Ring, report: Report, buffer: &mut [u8]) -> RingAnswer
     requires { ⌜ badRecord ring ≡ false ⌝ }
     ensures answer { λ r. ⌜ r ≡ stepReply ring report (now (buffer .entry)) .answer ⌝ }
     ensures bytes { λ r. ⌜ now (buffer .exit) ≡ stepReply ring report (now (buffer .entry)) .buffer ⌝ }
+    ensures number { λ r. ⌜ outcomeNumber (r .outcome) ≡ stepRefusal ring report (length (now (buffer .entry))) ⌝ }
+    ensures values { λ r. ⌜
+        choiceValues (r .choices) ≡ callValues (stepRefusal ring report (length (now (buffer .entry)))) (toldRing ring report)
+        ⌝ }
 {
-    let checked = reports::check_report(ring.n, report);
-    let health = with_word(ring.health, report);
-    advance(ring, health, checked, buffer)
+    // 5, 6 and 7 come before the plan, and so before 8.
+    match reports::check_report(ring.n, report) {
+        Outcome::Served => advance(told(ring, report), ring, buffer),
+        Outcome::Refused(number) => refused(number, ring),
+    }
 }

@@ -1,9 +1,14 @@
 -- `control::step` meets its contract: refused by 9, or as the inner step answers.
 use mathlib.Core.Path.{sym, _∙_}
 use borrow.Author.Needs.{needs}
-use Rattle.control.specs.Replies.{step-numbered, step-refused}
+use Rattle.model.specs.Answers.{stepReply}
+use Rattle.control.specs.Replies.{step-refused}
 use Rattle.control.proofs.step.Statement.{statement}
 use Rattle.control.proofs.step.Tie as tie
+
+returns : tie.Need-returns
+unfolding stepReply
+returns c = step-refused _ _ _ _ (sym (c .before .before .bad-record .ensures) ∙ c .before .if1 .taken) (c .refused .ensures)
 
 pub step-spec : {M : Type 1} → statement M
 step-spec =
@@ -11,7 +16,7 @@ step-spec =
     (tie.spec
     (λ c κs. search needs)
     (λ c κs. search needs)
-    (λ c. step-refused _ _ _ _ (sym (c .before .before .bad-record .ensures) ∙ c .before .if1 .taken) (c .refused .ensures))
+    returns
     (λ c κs. sym (c .before .before .bad-record .ensures) ∙ c .before .if1 .left)
     (λ c. search needs)
-    (λ c. step-numbered _ _ _ _ _ (c .before .before .step .ensures)))
+    (λ c. c .before .before .step .ensures))

@@ -53,6 +53,15 @@ served-refused {k = k} {o} p q = let z : _≡_ {A = ℕ} 0 1 = cc in absurd (ome
 pub outcome-is : (k : ℕ) (o : Outcome) → o ≡ outcomeOf k → (o ≡ outcomeOf k) × (outcomeNumber o ≡ k)
 outcome-is k o e = (e, rw e (outcome-number k))
 
+-- the number of an outcome that is served, and of one that is refused
+module _ {k : ℕ} {o : Outcome} (is : o ≡ outcomeOf k) where
+  pub served-zero : o ≡ outcome.Served → k ≡ 0
+  served-zero e = sym (outcome-is k o is .1) ∙ ap outcomeNumber e
+
+  pub refused-number : (j : ℕ) → o ≡ outcome.Refused j → (k ≡ j) × (k ≢ 0)
+  unfolding outcomeOf
+  refused-number j e = (sym (outcome-is k o is .1) ∙ ap outcomeNumber e, λ z. served-refused (is ∙ rw z) e)
+
 -- the answer to a call whose checks have the outcome o, of number k
 module _ {A : Type 0} (served : A) (refused : ℕ → A) (k : ℕ) (o : Outcome) (is : o ≡ outcomeOf k) where
   pub when-served : o ≡ outcome.Served → served ≡ cond (eqb k 0) served (refused k)

@@ -4,15 +4,16 @@ use mathlib.Core.Path.{_≡_, _∙_}
 use Prim.Native.Nat.{_≤_, _-_}
 use native.Mathlib.Nat.{le-antisymm}
 use Rattle.model.specs.Reports.{healthOf}
+use Rattle.model.specs.Laws.Choosing.{choices-values}
 use Rattle.planner.specs.Progress.{served, served-none, choicesTo, choices-none, choices-more, choices-all, commands-all}
 use Rattle.planner.proofs.plan.Statement.{statement}
 use Rattle.planner.proofs.plan.Tie as tie
 
 abbrev Inv-loop : tie.InvT-loop
-Inv-loop n health size usable choices₀ s₀ b₀ choices s b = (b ≤ n) × (s ≡ served n (healthOf health) b) × (choices ≡ choicesTo n (healthOf health) b)
+Inv-loop n health size usable choices₀ progress₀ b₀ choices progress b = (b ≤ n) × (progress ≡ served n (healthOf health) b) × (choices ≡ choicesTo n (healthOf health) b)
 
 abbrev μ-loop : tie.MeasureT-loop
-μ-loop n health size usable choices₀ s₀ b₀ choices s b = n - b
+μ-loop n health size usable choices₀ progress₀ b₀ choices progress b = n - b
 
 loop-again : tie.Need-loop-again Inv-loop μ-loop
 loop-again c =
@@ -28,7 +29,8 @@ returns c =
     let a = q .before .before .args in
     let e = le-antisymm (q .loop .inv .0) (d .loop-test .left) in
     let H = healthOf (a .health) in
-    ((rw e at (q .loop .inv .2)) ∙ choices-all (a .n) H, rw (rw e at (q .loop .inv .1)) (commands-all (a .n) H))
+    let s = (rw e at (q .loop .inv .2)) ∙ choices-all (a .n) H in
+    (s, (rw (rw e at (q .loop .inv .1)) (commands-all (a .n) H), rw s (choices-values (a .n) H)))
 
 pub plan-spec : {M : Type 1} → statement M
 plan-spec =

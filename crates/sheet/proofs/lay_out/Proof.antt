@@ -52,7 +52,7 @@ returns c =
     let k = a .counts .closing in
     let sizes : Appended (o ∷ k ∷ []) (now (a .buffer)) 0 (set (set (now (a .buffer)) 0 o) 1 k) 2 = record { stored = refl; end = refl } in
     laid-out (take o (now (a .opening))) (take k (now (a .closing))) (length-take-le o (now (a .opening)) (omega (arith, s .pre)))
-    (length-take-le k (now (a .closing)) (omega (arith, s .pre))) (s .pre .4)
+    (length-take-le k (now (a .closing)) (omega (arith, s .pre))) (omega (arith, s .pre))
     (appended-more (appended-more (appended-more (appended-more sizes (d .copy .ensures .0)) (e .copy2 .ensures .0)) (f .fill .ensures .0)) (g .fill2 .ensures .0))
 
 pub lay-out-spec : {M : Type 1} → statement M

@@ -2,10 +2,10 @@
 use mathlib.Core.Path.{refl}
 use Rattle.model.specs.Lists.{below}
 use Rattle.model.specs.Reports.{places}
-use Rattle.model.specs.Answers.{allDark}
+use Rattle.model.specs.Answers.{allDark, refusedAnswer}
 use Rattle.transition.proofs.refused.Statement.{statement}
 use Rattle.transition.proofs.refused.Tie as tie
 
 pub refused-spec : {M : Type 1} → statement M
-unfolding below places allDark
+unfolding below places allDark refusedAnswer
 refused-spec = tie.close (tie.spec (λ c. refl))

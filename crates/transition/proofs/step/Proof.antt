@@ -1,16 +1,49 @@
--- `transition::step` meets its contract: the checks of its report, and the ring taken to the health after the word.
+-- `transition::step` meets its contract: refused by its report's checks, or the told ring taken to its commands.
+use mathlib.Core.Path.{ap}
+use native.Mathlib.Omega.{arith}
+use denote.Ref.{now}
 use borrow.Author.Needs.{needs}
+use Rattle.model.specs.declared.Ring.{Ring}
+use Rattle.model.specs.Reports.{told}
+use Rattle.model.specs.Answers.{stepReply}
 use Rattle.model.specs.Laws.Refusals.{good-size}
-use Rattle.transition.specs.Replies.{step-advance}
+use Rattle.transition.specs.Replies.{step-advanced, step-refused}
 use Rattle.transition.proofs.step.Statement.{statement}
 use Rattle.transition.proofs.step.Tie as tie
 
+advance-requires : tie.Need-advance-requires
+unfolding told
+advance-requires c κs =
+    let s = c .before .before .before .before .before .before in
+    omega (arith, ap (λ (ring : Ring). ring .n) (c .before .told .ensures), good-size (s .args .ring) (s .pre))
+
 returns : tie.Need-returns
+unfolding stepReply
 returns c =
     let d = c .before .before in
-    let e = d .before .before .before in
-    step-advance _ (e .before .before .pre) _ _ _ (e .check-report .ensures .0) _ (d .before .before .with-word .ensures) _ _ (d .advance .ensures)
+    let t = d .before .before in
+    let o = t .before .before .before in
+    let s = o .before .before in
+    step-advanced _ (s .pre) _ (now (s .args .buffer)) _ (o .check-report .ensures .0) _ (t .before .enum-told .given .1) _
+    (t .told .ensures) _ (d .advance .ensures)
+
+returns-2 : tie.Need-returns-2
+unfolding stepReply
+returns-2 c =
+    let o = c .before .before .before .before in
+    let s = o .before .before in
+    step-refused _ (s .pre) _ (now (s .args .buffer)) _ (o .check-report .ensures .0) _ _ (c .before .before .number .given .1) (c .refused .ensures)
 
 pub step-spec : {M : Type 1} → statement M
 step-spec =
-    tie.close (tie.spec (λ c κs. search needs) (λ c κs. search needs) (λ c κs. good-size _ (c .before .before .before .before .pre)) (λ c. search needs) returns)
+    tie.close
+    (tie.spec
+    (λ c κs. search needs)
+    (λ c. search needs)
+    (λ c κs. search needs)
+    advance-requires
+    (λ c. search needs)
+    (λ c κs. search needs)
+    (λ c. search needs)
+    returns
+    returns-2)

@@ -1,7 +1,0 @@
--- `planner::counted_closed` meets its contract.
-use Rattle.planner.proofs.Auto.{auto}
-use Rattle.planner.proofs.counted_closed.Statement.{statement}
-use Rattle.planner.proofs.counted_closed.Tie as tie
-
-pub counted-closed-spec : {M : Type 1} → statement M
-counted-closed-spec = tie.close (tie.spec (λ c. search auto) (λ c. search auto))

@@ -1,7 +1,0 @@
--- `planner::free` meets its contract.
-use Rattle.planner.proofs.Auto.{auto}
-use Rattle.planner.proofs.free.Statement.{statement}
-use Rattle.planner.proofs.free.Tie as tie
-
-pub free-spec : {M : Type 1} → statement M
-free-spec = tie.close (tie.spec (λ c. search auto) (λ c. search auto))

@@ -1,0 +1,45 @@
+-- `planner::progress::serve` meets its contract: the search finds the plan's path, which is taken.
+use Rattle.planner.proofs.Auto.{auto}
+use Rattle.planner.specs.Progress.{serve-dark, serve-source, serve-path}
+use Rattle.planner.proofs.progress.serve.Statement.{statement}
+use Rattle.planner.proofs.progress.serve.Tie as tie
+
+search-requires : tie.Need-search-requires
+search-requires c κs = search auto
+
+take-requires : tie.Need-take-requires
+take-requires c κs =
+    let d = c .before .before .before in
+    let k = d .before .before .before .before .before .before in
+    let a = k .args in
+    let l = serve-source (a .n) (a .health) (a .b) (a .t3) (a .progress) (d .search .result) (search auto) (search auto)
+    (k .pre .1 .0) (k .pre .1 .1) (d .search .ensures) _ _ (c .before .g .given .1) in
+    search auto
+
+returns : tie.Need-returns
+returns c =
+    let d = c .before .before .before in
+    let k = d .before .before .before .before .before .before in
+    let a = k .args in
+    serve-dark (a .n) (a .health) (a .b) (a .t3) (a .progress) (d .search .result) (search auto) (search auto)
+    (k .pre .1 .0) (k .pre .1 .1) (d .search .ensures) (c .before .enum-told .given .1) (c .darken .ensures)
+
+returns-2 : tie.Need-returns-2
+returns-2 c =
+    let d = c .before .before .before .before in
+    let k = d .before .before .before .before .before .before in
+    let a = k .args in
+    serve-path (a .n) (a .health) (a .b) (a .t3) (a .progress) (d .search .result) (search auto) (search auto)
+    (k .pre .1 .0) (k .pre .1 .1) (d .search .ensures) _ _ (c .before .before .g .given .1) (c .take .ensures)
+
+pub serve-spec : {M : Type 1} → statement M
+serve-spec =
+    tie.close
+    (tie.spec
+    search-requires
+    (λ c. search auto)
+    (λ c κs. search auto)
+    (λ c. search auto)
+    take-requires
+    returns
+    returns-2)

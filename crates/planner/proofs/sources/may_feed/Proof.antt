@@ -1,0 +1,16 @@
+-- `planner::sources::may_feed` meets its contract.
+use Rattle.planner.proofs.Auto.{auto}
+use Rattle.planner.proofs.sources.may_feed.Statement.{statement}
+use Rattle.planner.proofs.sources.may_feed.Tie as tie
+
+fit-generator-requires : tie.Need-fit-generator-requires
+fit-generator-requires c κs = search auto
+
+returns : tie.Need-returns
+returns c = rw (← c .before .fit-generator .ensures, c .if1 .taken)
+
+returns-2 : tie.Need-returns-2
+returns-2 c = rw (← c .before .fit-generator .ensures, c .if1 .left)
+
+pub may-feed-spec : {M : Type 1} → statement M
+may-feed-spec = tie.close (tie.spec fit-generator-requires returns returns-2)

@@ -1,0 +1,33 @@
+-- `planner::sources::usable_generators` meets its contract. The loop's invariant: each place passed says whether its generator may feed.
+use Rattle.planner.proofs.Auto.{auto}
+use Rattle.planner.proofs.sources.usable_generators.Statement.{statement}
+use Rattle.planner.proofs.sources.usable_generators.Tie as tie
+use mathlib.Core.Path.{_≡_, _∙_}
+use mathlib.Core.Bool.{false, not, _&&_}
+use Prim.Native.Nat.{_≤_, _-_}
+use native.Mathlib.Nat.{le-antisymm}
+use lib.ListN.{getD}
+use Rattle.model.specs.Plant.{fit, stuckOpen}
+use Rattle.model.specs.Reports.{healthOf}
+use Rattle.model.specs.Laws.Parts.{filledTo, filled-none, filled-more, filled-all}
+use Rattle.planner.specs.Owner.{mayFeed}
+
+abbrev Inv-loop : tie.InvT-loop
+Inv-loop generators generator-breakers usable₀ g₀ usable g =
+    (usable ≡ filledTo false (λ i. fit (getD generators i 0) && not (stuckOpen (getD generator-breakers i 0))) g) × (g ≤ 20)
+
+abbrev μ-loop : tie.MeasureT-loop
+μ-loop generators generator-breakers usable₀ g₀ usable g = 20 - g
+
+loop-again : tie.Need-loop-again Inv-loop μ-loop
+loop-again c = let l = c .before .before .loop in (rw (l .inv .0, c .may-feed .ensures) (filled-more false _ (l .g)), search auto)
+
+returns : tie.Need-returns Inv-loop μ-loop
+unfolding mayFeed healthOf
+returns c = let l = c .before .loop in rw (le-antisymm (l .inv .1) (c .loop-test .left)) at (l .inv .0) ∙ filled-all false _
+
+pub usable-generators-spec : {M : Type 1} → statement M
+usable-generators-spec =
+    tie.close
+    (tie.spec Inv-loop μ-loop (λ c. (filled-none false _, search auto)) (λ c. search auto) (λ c. search auto) (λ c κs. search auto) (λ c. search auto)
+    (λ c. search auto) (λ c. search auto) loop-again returns)

@@ -1,0 +1,13 @@
+-- `records::is_active` meets its contract.
+use native.Mathlib.Omega.{arith}
+use Rattle.model.specs.Laws.Tests.{facts}
+use Rattle.records.specs.Records.{unfit-active, fit-active}
+use Rattle.records.proofs.is_active.Statement.{statement}
+use Rattle.records.proofs.is_active.Tie as tie
+
+pub is-active-spec : {M : Type 1} → statement M
+is-active-spec =
+    tie.close
+    (tie.spec
+    (λ c. unfit-active (c .before .args .health) _ _ (λ e. omega (arith, facts)) (λ e. omega (arith, facts)))
+    (λ c. fit-active (c .before .args .health) _ (omega (arith, facts))))
