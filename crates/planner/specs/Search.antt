@@ -69,7 +69,7 @@ span-lt n b g r hb hg =
     let h : Ends n w = record { source = hg; bus = hb } in
     (lower-lt h, up-lt n (lower w) (upper w) (lower-lt h) (upper-lt h))
 
--- ---- what a path's direction has to show, by cases of the numbers: however the code words its test
+-- ---- a path's direction and a generator's number of paths, by cases of the numbers: however the code words its test
 
 pub high-by : (n g b : ℕ) (t : Bool) → (up n g b ≤ up n b g → t ≡ false → ⊥) → (up n b g < up n g b → t ≡ true → ⊥) → t ≡ highRises n g b
 unfolding highRises
@@ -80,6 +80,13 @@ high-by n g b t p q = go (dec-lt (up n b g) (up n g b)) (dec t)
     go (inl l) (inr e) = rw (lt-leb (up n g b) (up n b g) l) e
     go (inr l) (inl e) = rw (le-leb (up n g b) (up n b g) l) e
     go (inr l) (inr e) = absurd (p l e)
+
+pub count-by : (b g : ℕ) {r : ℕ} → (g ≡ b → r ≡ 1) → (g ≢ b → r ≡ 2) → r ≡ pathCount b g
+count-by b g {r} own two = go (dec-eq g b)
+  where
+    go : (g ≡ b) ⊎ (g ≢ b) → r ≡ pathCount b g
+    go (inl e) = rw (eq-eqb g b e) (own e)
+    go (inr e) = rw (ne-eqb g b e) (two e)
 
 pub rises-by : (n b g p : ℕ) {t : Bool} → (p ≡ 0 → t ≡ highRises n g b) → (p ≢ 0 → t ≡ not (highRises n g b)) → t ≡ pathRises n b g p
 rises-by n b g p {t} h l = go (dec-eq p 0)
