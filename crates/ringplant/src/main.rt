@@ -32,7 +32,9 @@ fn print_buses(n: u8, buses: [BusFeed; 20]) -> bool
     requires { ⌜ n ≤ 20 ⌝ }
 {
     for b in 0..n {
-        if !(print_numbered(b"B", b + 1) && print_feed(buses[b as usize]) && io::write_all(STDOUT_FILENO, b"\n")) {
+        if !(print_numbered(b"B", b + 1)
+            && print_feed(buses[b as usize])
+            && io::write_all(STDOUT_FILENO, b"\n")) {
             return false;
         }
     }
@@ -43,7 +45,8 @@ fn print_buses(n: u8, buses: [BusFeed; 20]) -> bool
 fn print_answer(n: u8, answer: FeedsAnswer) -> bool {
     let outcome = answer.outcome;
     match outcome {
-        Outcome::Refused(k) => print_numbered(b"refused ", k) && io::write_all(STDOUT_FILENO, b"\n"),
+        Outcome::Refused(k) => print_numbered(b"refused ", k)
+            && io::write_all(STDOUT_FILENO, b"\n"),
         Outcome::Served => {
             let buses = answer.buses;
             20 < n || print_buses(n, buses)
@@ -69,10 +72,16 @@ fn reckoned(case: &[u8; 121]) -> FeedsAnswer {
 fn main() {
     let mut case = [0u8; 121];
     if io::read_full(STDIN_FILENO, &mut case) < 121 {
-        io::write_all(STDERR_FILENO, b"ringplant: standard input has fewer than 121 bytes\n");
+        io::write_all(
+            STDERR_FILENO,
+            b"ringplant: standard input has fewer than 121 bytes\n",
+        );
         return;
     }
     if !print_answer(case[0], reckoned(&case)) {
-        io::write_all(STDERR_FILENO, b"ringplant: standard output cannot be written\n");
+        io::write_all(
+            STDERR_FILENO,
+            b"ringplant: standard output cannot be written\n",
+        );
     }
 }
