@@ -194,7 +194,9 @@ def report_refusal(size, code, word):
         return 0, ""
     if kind == "G" and WORDS[word] == "fit":
         return 7, "a generator that has failed is not made fit again"
-    return 6, "a %s is %s" % ("generator" if kind == "G" else "breaker", " or ".join(WORDS_OF_KIND[kind]))
+    *others, last = WORDS_OF_KIND[kind]
+    words = ", ".join(others) + " or " + last if others else last
+    return 6, "a %s is reported as %s" % ("generator" if kind == "G" else "breaker", words)
 
 
 def shaped(data):

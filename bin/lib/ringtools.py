@@ -61,8 +61,8 @@ def command(name, use, run):
 
 
 def one_file(arguments, use, options=()):
-    """The options given and the file, None for standard input. More than one file is an error; so is a terminal in place of a
-    file, where the use is shown."""
+    """The options given and the file, None for standard input. More than one file is an error; where there is none and standard
+    input is a terminal, the use is shown. The file `-` is standard input, a terminal too."""
     given = [a for a in arguments if a.startswith("-") and a != "-"]
     files = [a for a in arguments if a not in given]
     for option in given:
@@ -70,10 +70,9 @@ def one_file(arguments, use, options=()):
             raise Failure("no such option: %s; --help shows the use" % option)
     if len(files) > 1:
         raise Failure("one file at a time, not %d: %s" % (len(files), " ".join(files)))
-    path = files[0] if files and files[0] != "-" else None
-    if path is None and os.isatty(0):
+    if not files and os.isatty(0):
         raise Failure(use)
-    return given, path
+    return given, files[0] if files and files[0] != "-" else None
 
 
 def read_some(number, most):

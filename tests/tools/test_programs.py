@@ -1,0 +1,49 @@
+"""The built programs themselves, beside the simulation: stored runs and others."""
+import os
+import subprocess
+import sys
+import tempfile
+import unittest
+
+from support import path, program, read, run, stored_runs, tool
+
+
+class Programs(unittest.TestCase):
+
+    def test_every_stored_run(self):
+        """What the program prints is read in its source; here every stored run holds it to its bytes."""
+        count = 0
+        for data, text in stored_runs():
+            answer = program("ringctl", data)
+            self.assertEqual((answer.out, answer.said, answer.status), (text, "", 0), data)
+            count += 1
+        self.assertEqual(read("crates", "vectors", "stdout"), b"%d cases, 0 differ\n" % count)
+
+    def test_stored_runs_by_the_command(self):
+        for data, text in list(stored_runs())[::15]:
+            answer = tool("ringctl", data=data)
+            self.assertEqual((answer.out, answer.status), (text, int(text.startswith(b"refused"))), data)
+
+    def test_other_cases(self):
+        with tempfile.TemporaryDirectory() as folder:
+            made = run([sys.executable, "-B", path("tests", "make_vectors.py"), "--seed", "14", "--out", folder])
+            self.assertEqual(made.status, 0, made.said)
+            for name in ("vectors", "vectors_plant", "vectors_step"):
+                if os.access(path("target", "bin", name), os.X_OK):
+                    with self.subTest(name):
+                        answer = program(name, cwd=os.path.join(folder, name))
+                        self.assertRegex(answer.out.decode(), "^[0-9]+ cases, 0 differ\n$")
+                        self.assertNotEqual(open(os.path.join(folder, name, "cases"), "rb").read(), read("crates", name, "data", "cases"))
+
+    def test_seed_and_folder_go_together(self):
+        answer = run([sys.executable, "-B", path("tests", "make_vectors.py"), "--seed", "14"])
+        self.assertEqual(answer.status, 2)
+
+    def test_the_simulation_by_its_own_tests(self):
+        answer = run([sys.executable, "-B", path("tests", "simulation", "selftest.py"), "--quick"], stdin=subprocess.DEVNULL)
+        self.assertEqual(answer.status, 0)
+        self.assertRegex(answer.out.decode(), r"all told: [0-9]+ good, 0 bad\s*$")
+
+
+if __name__ == "__main__":
+    unittest.main()
