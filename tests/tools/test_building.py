@@ -40,7 +40,10 @@ class Building(ToolCase):
         return run([self.at("bin/ringctl")], env=words)
 
     def calls(self):
-        return len(open(self.at("calls")).readlines()) if os.path.exists(self.at("calls")) else 0
+        if not os.path.exists(self.at("calls")):
+            return 0
+        with open(self.at("calls")) as calls:
+            return len(calls.readlines())
 
     def test_builds_once_and_says_so(self):
         self.check(self.ring(), 1, b"refused 1\n", "^ringctl: proving and building ringctl first; from nothing this takes some minutes")

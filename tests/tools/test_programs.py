@@ -33,7 +33,7 @@ class Programs(unittest.TestCase):
                     with self.subTest(name):
                         answer = program(name, cwd=os.path.join(folder, name))
                         self.assertRegex(answer.out.decode(), "^[0-9]+ cases, 0 differ\n$")
-                        self.assertNotEqual(open(os.path.join(folder, name, "cases"), "rb").read(), read("crates", name, "data", "cases"))
+                        self.assertNotEqual(read(folder, name, "cases"), read("crates", name, "data", "cases"))
 
     def test_seed_and_folder_go_together(self):
         answer = run([sys.executable, "-B", path("tests", "make_vectors.py"), "--seed", "14"])
