@@ -8,8 +8,10 @@ ROOT = os.path.dirname(os.path.dirname(os.path.dirname(os.path.abspath(__file__)
 for folder in ("bin/lib", "tests", "tests/simulation"):
     sys.path.insert(0, os.path.join(ROOT, folder))
 sys.dont_write_bytecode = True
-import make_vectors  # noqa: E402
-import ringsim  # noqa: E402
+import compare  # noqa: E402, F401
+import faultlines  # noqa: E402, F401
+import make_vectors  # noqa: E402, F401
+import ringsim  # noqa: E402, F401
 
 
 class Answer:

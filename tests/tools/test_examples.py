@@ -4,8 +4,7 @@ import os
 import re
 import unittest
 
-import faultlines
-from support import ToolCase, make_vectors, path, read, ringsim, tool
+from support import ToolCase, faultlines, make_vectors, path, read, ringsim, tool
 
 EXAMPLES = sorted(os.path.basename(name)[:-4] for name in glob.glob(path("examples", "*.txt")))
 ERRORS = sorted(os.path.basename(name)[:-4] for name in glob.glob(path("examples", "errors", "*.txt")))

@@ -3,8 +3,7 @@ import random
 import tempfile
 import unittest
 
-from support import ToolCase, path, read, ringsim, stored_runs, tool
-import faultlines
+from support import ToolCase, faultlines, path, read, ringsim, stored_runs, tool
 
 
 class Encode(ToolCase):

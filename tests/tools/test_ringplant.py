@@ -2,7 +2,7 @@
 import random
 import unittest
 
-from support import ToolCase, make_vectors, program, ringsim, tool
+from support import ToolCase, faultlines, make_vectors, program, ringsim, tool
 
 
 class Ringplant(ToolCase):
@@ -51,7 +51,6 @@ class Ringplant(ToolCase):
     def test_the_lines_make_the_case(self):
         lines = b"ring 20\nG20 stuck off\nGB20 stuck open\nBB20 stuck closed\nG20 on\nclose GB20 BB20\n"
         self.check(tool("ringplant", data=lines), 0, b"".join(b"B%d dark\n" % k for k in range(1, 21)))
-        import faultlines
         case = faultlines.plant_case(lines)
         expected = [20] + [0] * 120
         for code, word in ((19, 1), (51, 2), (83, 3)):

@@ -1,12 +1,12 @@
 """bin/ringview and its program: what feeds each bus after every stroke, and the page that shows it."""
 import json
+import os
 import random
 import re
+import tempfile
 import unittest
 
-from support import ToolCase, make_vectors, program, stored_runs, tool
-import compare
-import ringsim
+from support import ToolCase, compare, make_vectors, program, ringsim, stored_runs, tool
 
 
 def story(page):
@@ -48,8 +48,6 @@ class Ringview(ToolCase):
         self.assertNotRegex(page, r"<link|@import|src=")
 
     def test_a_name_is_only_text(self):
-        import os
-        import tempfile
         with tempfile.TemporaryDirectory() as folder:
             name = os.path.join(folder, "<script>x<!-- & \".txt")
             with open(name, "w") as out:
