@@ -14,10 +14,10 @@ import ringtools
 
 
 def check(data):
-    verdict = faultlines.check(data)
-    answer = "refused %d" % verdict.refusal if verdict.refusal else "served"
-    ringtools.write_output(("\n".join(verdict.lines + ["the controller's answer: " + answer]) + "\n").encode())
-    return ringtools.REFUSED if verdict.refusal else ringtools.SERVED
+    lines, refusal = faultlines.check(data)
+    answer = "the controller's answer: " + ("refused %d" % refusal if refusal else "served")
+    ringtools.write_output(("\n".join(lines + [answer]) + "\n").encode())
+    return ringtools.REFUSED if refusal else ringtools.SERVED
 
 
 def run(arguments):

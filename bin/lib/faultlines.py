@@ -143,6 +143,8 @@ def is_bytes(lines):
 def joined(size, reports):
     """The bytes of a fault file."""
     count = len(reports)
+    if count > 65535:
+        raise Failure("a fault file counts at most 65535 reports, not %d" % count)
     return bytes([size, count % 256, count // 256] + [code for code, _ in reports] + [word for _, word in reports])
 
 
@@ -152,10 +154,7 @@ def encode(data):
     if is_bytes(lines):
         return b"".join(read_all(lines, bytes_in))
     size = size_of(lines)
-    reports = read_all(lines[1:], lambda texts: report_in(texts, size))
-    if len(reports) > 65535:
-        raise Failure("%s: a fault file counts at most 65535 reports" % lines[65536])
-    return joined(size, reports)
+    return joined(size, read_all(lines[1:], lambda texts: report_in(texts, size)))
 
 
 def fault_file(data):
@@ -232,51 +231,31 @@ def decode(data):
     return "\n".join(remark + lines) + "\n"
 
 
-class Verdict:
-    """What the controller would answer to a file, in words: `lines`, and the number of the refusal, 0 where it is served."""
-
-    def __init__(self, lines, refusal):
-        self.lines = lines
-        self.refusal = refusal
-
-
-def check_reports(size, labelled):
-    """The words for each refused report, and the first refusal."""
-    lines, first = [], 0
-    for label, code, word in labelled:
-        refusal, reason = report_refusal(size, code, word)
-        if refusal:
-            lines.append("%s: refused %d, %s" % (label, refusal, reason))
-            first = first or refusal
-    return lines, first
-
-
-def labelled_reports(data):
-    """The reports of readable lines, each with its line; a part that the ring lacks has its code, so that it can be judged."""
-    lines = lines_in(data)
-    if is_bytes(lines):
-        return None
-    size_of(lines)
-    reports = read_all(lines[1:], lambda texts: report_in(texts, MOST))
-    return [(str(line), code, word) for line, (code, word) in zip(lines[1:], reports)]
+def labelled_file(data):
+    """A fault file, and for each of its reports the line that it stands in, or its number. A part that the ring lacks has its code
+    here, so that it can be judged."""
+    lines = lines_in(data) if is_readable(data) else []
+    if lines and not is_bytes(lines):
+        reports = read_all(lines[1:], lambda texts: report_in(texts, MOST))
+        return joined(size_of(lines), reports), [str(line) for line in lines[1:]]
+    file = fault_file(data)
+    reports = reports_of(file) if shaped(file) else []
+    return file, ["report %d: %s" % (i, report_text(file[0], *report)) for i, report in enumerate(reports, start=1)]
 
 
 def check(data):
-    """What the controller would refuse in a fault file or in readable lines."""
-    labelled = labelled_reports(data) if is_readable(data) else None
-    if labelled is not None:
-        size = size_of(lines_in(data))
-        data = joined(size, [(code, word) for _, code, word in labelled]) if len(labelled) < 65536 else encode(data)
-    else:
-        data = fault_file(data)
-    number, reason = file_refusal(data)
+    """What the controller would refuse in a fault file or in readable lines, a line each, and the number of its answer, 0 where it
+    serves."""
+    file, labels = labelled_file(data)
+    number, reason = file_refusal(file)
     if number:
-        return Verdict(["refused %d, %s" % (number, reason)], number)
-    if labelled is None:
-        labelled = [("report %d: %s" % (i, report_text(data[0], code, word)), code, word)
-                    for i, (code, word) in enumerate(reports_of(data), start=1)]
-    lines, first = check_reports(data[0], labelled)
-    return Verdict(lines, first)
+        return ["refused %d, %s" % (number, reason)], number
+    found = []
+    for label, (code, word) in zip(labels, reports_of(file)):
+        refusal, reason = report_refusal(file[0], code, word)
+        if refusal:
+            found.append((refusal, "%s: refused %d, %s" % (label, refusal, reason)))
+    return [line for _, line in found], found[0][0] if found else 0
 
 
 # ---- the plant: health and orders

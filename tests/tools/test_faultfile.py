@@ -119,9 +119,9 @@ class Check(ToolCase):
         files = [data for data, _ in stored_runs()]
         files += [bytes(rng.choice([0, 1, 2, 3, 4, 20, 32, 51, 64, 83, 84, 255]) for _ in range(rng.randrange(12))) for _ in range(3000)]
         for data in files:
-            self.assertEqual(faultlines.check(data).refusal, ringsim.parse_fault_file(data).refusal, data)
+            self.assertEqual(faultlines.check(data)[1], ringsim.parse_fault_file(data).refusal, data)
             lines = faultlines.decode(data).encode()
-            self.assertEqual(faultlines.check(lines).refusal, ringsim.parse_fault_file(data).refusal, lines)
+            self.assertEqual(faultlines.check(lines)[1], ringsim.parse_fault_file(data).refusal, lines)
 
 
 class Words(ToolCase):
