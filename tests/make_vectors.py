@@ -237,17 +237,22 @@ def all_cases(seeds):
     yield "vectors_step", list(steps(random.Random(seeds[2])))
 
 
-def store():
-    """The cases that are stored, with what the programs print."""
+def stored_files():
+    """The files that are stored below crates/, and their bytes."""
     for crate, cases in all_cases([1, 2, 3]):
-        write(os.path.join(CRATES, crate, "data", "cases"), b"".join(cases))
-        write(os.path.join(CRATES, crate, "stdout"), b"%d cases, 0 differ\n" % len(cases))
-        print("%s: %d cases" % (crate, len(cases)))
+        yield os.path.join(crate, "data", "cases"), b"".join(cases)
+        yield os.path.join(crate, "stdout"), b"%d cases, 0 differ\n" % len(cases)
     n, health, commands = gate_plant()
-    write(os.path.join(CRATES, "ringplant", "stdin"), bytes([n]) + places(health) + places(commands))
-    write(os.path.join(CRATES, "ringplant", "stdout"), plant_text(n, health, commands).encode())
-    write(os.path.join(CRATES, "ringtrace", "stdin"), GATE_TRACE)
-    write(os.path.join(CRATES, "ringtrace", "stdout"), trace_text(GATE_TRACE).encode())
+    yield os.path.join("ringplant", "stdin"), bytes([n]) + places(health) + places(commands)
+    yield os.path.join("ringplant", "stdout"), plant_text(n, health, commands).encode()
+    yield os.path.join("ringtrace", "stdin"), GATE_TRACE
+    yield os.path.join("ringtrace", "stdout"), trace_text(GATE_TRACE).encode()
+
+
+def store():
+    for name, data in stored_files():
+        write(os.path.join(CRATES, name), data)
+        print("%s: %d bytes" % (name, len(data)))
 
 
 def make_others(seed, folder):

@@ -5,7 +5,7 @@ import sys
 import tempfile
 import unittest
 
-from support import path, program, read, run, stored_runs, tool
+from support import make_vectors, path, program, read, run, stored_runs, tool
 
 
 class Programs(unittest.TestCase):
@@ -19,10 +19,23 @@ class Programs(unittest.TestCase):
             count += 1
         self.assertEqual(read("crates", "vectors", "stdout"), b"%d cases, 0 differ\n" % count)
 
+    def test_the_program_says_what_it_cannot_do(self):
+        with open("/dev/full", "wb") as full:
+            for data in (b"\3\0\0", b"\3", bytes([20, 0, 16]) + b"\x40" * 4096 + b"\2" * 4096):
+                self.assertEqual(program("ringctl", data, stdout=full).said, "ringctl: standard output cannot be written\n")
+        folder = os.open(path("examples"), os.O_RDONLY)
+        self.addCleanup(os.close, folder)
+        answer = program("ringctl", stdin=folder)
+        self.assertEqual((answer.out, answer.said), (b"", "ringctl: standard input cannot be read\n"))
+
     def test_stored_runs_by_the_command(self):
         for data, text in list(stored_runs())[::15]:
             answer = tool("ringctl", data=data)
             self.assertEqual((answer.out, answer.status), (text, int(text.startswith(b"refused"))), data)
+
+    def test_stored_cases_are_the_simulations(self):
+        for name, data in make_vectors.stored_files():
+            self.assertEqual(read("crates", name), data, name)
 
     def test_other_cases(self):
         with tempfile.TemporaryDirectory() as folder:
