@@ -32,6 +32,12 @@ class Ringctl(ToolCase):
         self.check(tool("ringctl", data=b"Ring 3\n"), 1, b"refused 2\n", "looks like text")
         self.check(tool("ringctl", data=b"\nring 3\n"), 1, b"refused 3\n", "looks like text")
 
+    def test_the_longest_file_and_longer_ones(self):
+        for more, number in ((0, 0), (1, 4), (2, 4), (100000, 4)):
+            answer = tool("ringctl", data=bytes([3, 0, 16]) + b"\x40" * 4096 + b"\0" * (4096 + more))
+            self.check(answer, int(number > 0))
+            self.assertTrue(answer.out.startswith(b"refused %d\n" % number if number else b"ring 3 reports 4096\n"))
+
     def test_an_endless_input_ends(self):
         with open("/dev/zero", "rb") as zeros:
             self.check(tool("ringctl", stdin=zeros), 1, b"refused 2\n")
