@@ -21,9 +21,11 @@ def check(data):
 
 
 def run(arguments):
-    if not arguments or arguments[0] not in ("encode", "decode", "check"):
-        raise ringtools.Failure(__doc__ if not arguments else "encode, decode or check, not `%s`; --help shows the use" % arguments[0])
-    _, path = ringtools.one_file(arguments[1:], __doc__)
+    if not arguments:
+        raise ringtools.Use
+    if arguments[0] not in ("encode", "decode", "check"):
+        raise ringtools.Failure("encode, decode or check, not `%s`; --help shows the use" % arguments[0])
+    _, path = ringtools.one_file(arguments[1:])
     data = ringtools.read_input(path, whole=True)
     if arguments[0] == "check":
         return check(data)

@@ -31,7 +31,7 @@ def hint(data):
 
 
 def run(arguments):
-    options, path = ringtools.one_file(arguments, __doc__, ("--changes",))
+    options, path = ringtools.one_file(arguments, ("--changes",))
     data = ringtools.read_input(path)
     output = ringtools.output_of("ringctl", faultlines.fault_file(data), "ringctl")
     status = ringtools.status_of(output)

@@ -14,7 +14,7 @@ import ringtools
 
 
 def run(arguments):
-    _, path = ringtools.one_file(arguments, __doc__)
+    _, path = ringtools.one_file(arguments)
     data = ringtools.read_input(path, whole=True)
     output = ringtools.output_of("ringplant", faultlines.plant_case(data), "ringplant")
     ringtools.write_output(output)

@@ -21,13 +21,21 @@ class Failure(Exception):
     """Something could not be read, written or run: its message goes to the user, and the status is 2."""
 
 
+class Use(Failure):
+    """A command without what it needs: it shows its use."""
+
+
+def complain(text):
+    """A text on standard error; a closed one is passed over."""
+    try:
+        os.write(2, text.encode("utf-8", "replace"))
+    except OSError:
+        pass
+
+
 def say(name, message):
-    """Lines on standard error, each with the command's name; a closed standard error is passed over."""
-    for line in str(message).rstrip("\n").split("\n"):
-        try:
-            os.write(2, ("%s: %s\n" % (name, line)).encode("utf-8", "replace"))
-        except OSError:
-            return
+    """Lines on standard error, each with the command's name."""
+    complain("".join("%s: %s\n" % (name, line) for line in str(message).rstrip("\n").split("\n")))
 
 
 def hold_standard_files():
@@ -49,6 +57,9 @@ def command(name, use, run):
             status = SERVED
         else:
             status = run(arguments)
+    except Use:
+        complain(use)
+        status = FAILED
     except Failure as failure:
         say(name, failure)
         status = FAILED
@@ -60,7 +71,7 @@ def command(name, use, run):
     sys.exit(status)
 
 
-def one_file(arguments, use, options=()):
+def one_file(arguments, options=()):
     """The options given and the file, None for standard input. More than one file is an error; where there is none and standard
     input is a terminal, the use is shown. The file `-` is standard input, a terminal too."""
     given = [a for a in arguments if a.startswith("-") and a != "-"]
@@ -71,7 +82,7 @@ def one_file(arguments, use, options=()):
     if len(files) > 1:
         raise Failure("one file at a time, not %d: %s" % (len(files), " ".join(files)))
     if not files and os.isatty(0):
-        raise Failure(use)
+        raise Use
     return given, files[0] if files and files[0] != "-" else None
 
 
@@ -154,7 +165,8 @@ def built(name, tool):
     except OSError:
         raise Failure("the Rattle kit's command `rt` is not on the path: %s cannot be built" % name)
     if check.returncode != 0 or not os.access(program, os.X_OK):
-        raise Failure("%s was not built:\n%s" % (name, check.stdout.decode("utf-8", "replace")))
+        complain(check.stdout.decode("utf-8", "replace"))
+        raise Failure("%s was not built" % name)
     os.utime(program, (begun, begun))
     return program
 

@@ -46,7 +46,7 @@ def page(title, data, run, trace):
 
 
 def run(arguments):
-    _, path = ringtools.one_file(arguments, __doc__)
+    _, path = ringtools.one_file(arguments)
     data = faultlines.fault_file(ringtools.read_input(path))
     printed = ringtools.output_of("ringctl", data, "ringview")
     if ringtools.status_of(printed) == ringtools.REFUSED:

@@ -63,7 +63,7 @@ class Building(ToolCase):
 
     def test_a_build_that_fails(self):
         self.kit("echo model: not proved\nexit 1")
-        self.check(self.ring(), 2, b"", "ringctl was not built:\nringctl: model: not proved")
+        self.check(self.ring(), 2, b"", "model: not proved\nringctl: ringctl was not built\n$")
 
     @unittest.skipIf(any(os.access(os.path.join(p, "rt"), os.X_OK) for p in ("/usr/bin", "/bin", os.path.dirname(shutil.which("python3")))),
                      "the kit stands beside python3")

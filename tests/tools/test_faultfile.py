@@ -131,7 +131,7 @@ class Words(ToolCase):
         self.check(tool("faultfile", "decode", path("examples", "bus-breaker-open.faults")), 0, b"ring 3\nBB2 stuck open\n")
 
     def test_wrong_words(self):
-        self.check(tool("faultfile"), 2, b"", "bin/faultfile encode")
+        self.check(tool("faultfile"), 2, b"", "^bin/faultfile encode")
         self.check(tool("faultfile", "recode"), 2, b"", "encode, decode or check, not `recode`")
         self.check(tool("faultfile", "encode", "a", "b"), 2, b"", "one file at a time")
         self.check(tool("faultfile", "decode", "no-such-file"), 2, b"", "no-such-file cannot be read")

@@ -104,7 +104,7 @@ class Ringctl(ToolCase):
 
     def test_on_a_terminal_it_shows_its_use(self):
         _, theirs = self.terminal()
-        self.check(tool("ringctl", stdin=theirs), 2, b"", r"bin/ringctl \[--changes\] \[FILE\]")
+        self.check(tool("ringctl", stdin=theirs), 2, b"", r"^bin/ringctl \[--changes\] \[FILE\]")
 
     def test_the_end_of_a_terminal_is_asked_for_once(self):
         ours, theirs = self.terminal()

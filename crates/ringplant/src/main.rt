@@ -1,5 +1,5 @@
-// The plant reckoning for a class: reads n, the health of the sixty parts and their last orders (1 is on or closed), a byte
-// each, and prints what feeds each bus.
+// The plant reckoning for a class: reads n, the health of the sixty parts and their commands (1 is on or closed), a byte each,
+// and prints what feeds each bus.
 ghost use Prim.Native.Nat.{_≤_};
 use libc::STDERR_FILENO;
 use libc::STDIN_FILENO;

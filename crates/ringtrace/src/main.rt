@@ -1,5 +1,5 @@
-// What feeds each bus after every stroke (in the code: operation): reads a fault file from standard input and prints, for each
-// call, a line for the ring after the word and before the first stroke, and a line after each stroke of both waves (phases).
+// What feeds each bus after every operation (document 01: stroke): reads a fault file from standard input and prints, for each
+// call, a line for the ring after the word and before the first operation, and a line after each operation of both phases.
 ghost use Prim.Native.Nat.{_≤_};
 use libc::STDERR_FILENO;
 use libc::STDIN_FILENO;
@@ -70,8 +70,8 @@ fn append_buses(out: &mut [u8; 320], length: usize, n: u8, buses: [BusFeed; 20])
     end
 }
 
-// The part of a code and its order, as `BB2-`.
-fn append_stroke(out: &mut [u8; 320], code: u8, on: bool) -> usize {
+// The part of a code and its command, as `BB2-`.
+fn append_operation(out: &mut [u8; 320], code: u8, on: bool) -> usize {
     let mut end = 0;
     match code {
         0..=19 => {
@@ -93,7 +93,7 @@ fn append_stroke(out: &mut [u8; 320], code: u8, on: bool) -> usize {
 }
 
 // "A stroke sets its part's last order, stuck or not."
-fn with_stroke(commands: Commands, code: u8, on: bool) -> Commands {
+fn performed(commands: Commands, code: u8, on: bool) -> Commands {
     let mut next = commands;
     match code {
         0..=19 => {
@@ -140,23 +140,23 @@ fn print_feeds(
     print(out, end)
 }
 
-// The orders of both waves together.
-fn orders(first: u8, second: u8) -> usize
+// The operations of both phases together.
+fn operation_count(first: u8, second: u8) -> usize
     ensures { λ r. ⌜ r ≤ 510 ⌝ }
 {
     first as usize + second as usize
 }
 
-// A line after each stroke of a sheet: its sizes, the codes of both waves, then the orders.
-fn print_strokes(n: u8, health: Health, before: Commands, sheet: &[u8; 122]) -> bool {
-    let size = orders(sheet[0], sheet[1]);
+// A line after each operation of a command sheet: its sizes, the codes of both phases, then the commands.
+fn print_operations(n: u8, health: Health, before: Commands, sheet: &[u8; 122]) -> bool {
+    let size = operation_count(sheet[0], sheet[1]);
     let mut commands = before;
     for i in 0..60 {
         if i < size && 2 + size + i < 122 {
             let on = sheet[2 + size + i] == 1;
             let mut out = [0u8; 320];
-            let length = append_stroke(&mut out, sheet[2 + i], on);
-            commands = with_stroke(commands, sheet[2 + i], on);
+            let length = append_operation(&mut out, sheet[2 + i], on);
+            commands = performed(commands, sheet[2 + i], on);
             if !print_feeds(&mut out, length, n, health, commands) {
                 return false;
             }
@@ -165,13 +165,13 @@ fn print_strokes(n: u8, health: Health, before: Commands, sheet: &[u8; 122]) -> 
     true
 }
 
-// A call: its number and the ring after its word, then its strokes.
+// A call: its number and the ring after its word, then its operations.
 fn print_call(number: usize, before: Commands, after: Ring, sheet: &[u8; 122]) -> bool {
     let mut out = [0u8; 320];
     let health = after.health;
     io::print_decimal(STDOUT_FILENO, number as u64)
         && print_feeds(&mut out, 0, after.n, health, before)
-        && print_strokes(after.n, health, before, sheet)
+        && print_operations(after.n, health, before, sheet)
 }
 
 // The calls of the reports.
