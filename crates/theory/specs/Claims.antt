@@ -211,7 +211,7 @@ otherOutcome n P Q p = not (Bool·beq (Q .last p) (newCommands n P p))
 pub data Claim3 : Type 0 where
   start-only start-always start-record-kept start-buffer-kept start-choices-dark start-behind-kept start-length-kept : Claim3
   only always record-kept buffer-kept choices-dark behind-kept length-kept : Claim3
-  ends start-chosen start-first start-second choices-are decodes first-is second-is : Claim3
+  ends ends-after start-chosen start-first start-second choices-are decodes first-is second-is : Claim3
   dark-exactly lit-exactly energized de-energized : Claim3
   size health standing health-above commands-above : Claim3
   clash-in-start-first clash-in-start-second clash-in-first clash-in-second clash-between : Claim3
@@ -225,6 +225,10 @@ module _ (c : Controller) (i : Instance) where
   -- the reply to the start
   unfoldable pub startOf : Reply
   startOf = c .start (i .size) (i .lending)
+
+  -- the reply to the call right after it
+  unfoldable pub firstReply : Reply
+  firstReply = replyTo c (startOf .answer .ring) (i .call)
 
   -- the refusal due to the start
   unfoldable pub startDue : ℕ
@@ -267,6 +271,7 @@ module _ (c : Controller) (i : Instance) where
   fails3 behind-kept = atCall (λ W reply. behindChanged (lent (i .call)) reply)
   fails3 length-kept = atCall (λ W reply. lengthChanged (lent (i .call)) reply)
   fails3 ends = isServed startOf && isNone (decode (i .size) (startOf .buffer))
+  fails3 ends-after = isServed startOf && (isServed firstReply && isNone (decode (i .size) (firstReply .buffer)))
   fails3 start-chosen = isServed startOf && anyOf (otherChoice (i .size) freshPlant startOf) (below (i .size))
   fails3 start-first = atStart (otherFirst (i .size) freshPlant)
   fails3 start-second = atStart (otherSecond (i .size) freshPlant)

@@ -33,7 +33,7 @@ use Rattle.model.specs.Laws.Choosing.{choices-at}
 use Rattle.theory.specs.Completeness.{de-energized-exactly}
 use Rattle.theory.specs.Feeds.{reaches-usable, usable-reaches}
 use Rattle.theory.specs.Demand3.{Controller, PlantState, freshPlant, afterWords, Operation, operation, performAll, Phases, decode, Call, step, Calls, _then_}
-use Rattle.theory.specs.Demand3.{nothing, isStuckClosed, whole, longer, replyTo, words, lent, isServed, World, Performed, Ended, started, Moment, in-first, in-second, excepted}
+use Rattle.theory.specs.Demand3.{nothing, isStuckClosed, whole, longer, replyTo, words, lent, isServed, World, Performed, Ended, started, served, refused, Moment, in-first, in-second, excepted}
 use Rattle.theory.specs.Demand3.{Interrupted, in-start, between, in-call, shownAt, BusShown, RecordGiven, AsChosen, StartMeets, too-large, Meets}
 use Rattle.theory.specs.Demand3.{Answered, Holds, Demand3}
 use Rattle.theory.specs.Operations.{opening-at, closing-at}
@@ -46,7 +46,7 @@ use Rattle.theory.specs.Claims.{Instance, differ, isDark, feedNumber, is
 use Rattle.theory.specs.Claims.{operationsDigest, due, refusedInVain, notRefused, recordChanged, bufferChanged, choicesLit, behindChanged, lengthChanged}
 use Rattle.theory.specs.Claims.{darkThoughReached, litThoughUnreached, litByAnother, darkThoughFed, otherHealth, otherCommand, unfitAbove, onAbove}
 use Rattle.theory.specs.Claims.{anyClash, otherChoice, newCommands, otherFirst, otherSecond, clashInFirst, clashInSecond, extraOpen, extraClose}
-use Rattle.theory.specs.Claims.{hasOperation, otherOutcome, startOf, startDue, atCall, atServed, atPhases, atStart, atEnd, fails3, fails2, Claim3, Claim2}
+use Rattle.theory.specs.Claims.{hasOperation, otherOutcome, startOf, startDue, atCall, atServed, atPhases, atStart, atEnd, firstReply, fails3, fails2, Claim3, Claim2}
 
 -- ---- what a test that passed says
 
@@ -386,7 +386,7 @@ module _ (c : Controller) (i : Instance) (d : Demand3 c) where
 
   -- a controller that meets the demand fails no test of its claims
   pub refutes3 : (claim : Claim3) → fails3 c i claim ≡ true → ⊥
-  unfolding fails3 startOf startDue clashInFirst clashInSecond
+  unfolding fails3 startOf firstReply startDue clashInFirst clashInSecond
   refutes3 claim.start-only e = only-sound start-claimed (judge-start N (length (i .lending))) e
   refutes3 claim.start-always e = always-sound start-claimed (judge-start N (length (i .lending))) e
   refutes3 claim.start-record-kept e = record-sound start-claimed e
@@ -411,6 +411,16 @@ module _ (c : Controller) (i : Instance) (d : Demand3 c) where
     where
       unended : {W : World} → decode N (c .start N (i .lending) .buffer) ≡ none → Ended c N (i .lending) nothing W → ⊥
       unended z (started s q p) = none-some z q
+  refutes3 claim.ends-after e =
+      let reply = replyTo c (c .start N (i .lending) .answer .ring) (i .call) in
+      let t = both (isServed (c .start N (i .lending))) _ e in
+      let u = both (isServed reply) _ (t .1) in
+      unended (u .0) (is-none (decode N (reply .buffer)) (u .1)) (d .holds N (i .lending) (t .0) (nothing then i .call) .ends .1)
+    where
+      unended : {W : World} → isServed (replyTo c (c .start N (i .lending) .answer .ring) (i .call)) ≡ true
+          → decode N (replyTo c (c .start N (i .lending) .answer .ring) (i .call) .buffer) ≡ none → Ended c N (i .lending) (nothing then i .call) W → ⊥
+      unended s z (served call (started a b p) x q r) = none-some z q
+      unended s z (refused call (started a b p) x) = contra s x
   refutes3 claim.start-chosen e = let t = both (isServed (c .start N (i .lending))) _ e in chosen-sound (small (t .0)) (begun (t .0) .start-chosen) (t .1)
   refutes3 claim.start-first e =
       let t = at-start c i (otherFirst N freshPlant) e in

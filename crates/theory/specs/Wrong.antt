@@ -51,7 +51,7 @@ use Rattle.theory.specs.Claims.{sum, digest, ringSum, choiceNumber, choi
 use Rattle.theory.specs.Claims.{onWorld, onPhases, due, refusedInVain, notRefused, recordChanged, bufferChanged, choicesLit, behindChanged}
 use Rattle.theory.specs.Claims.{lengthChanged, darkThoughReached, litThoughUnreached, litByAnother, darkThoughFed, otherHealth, otherCommand}
 use Rattle.theory.specs.Claims.{unfitAbove, onAbove, anyClash, otherChoice, newCommands, otherFirst, otherSecond, clashInFirst, clashInSecond}
-use Rattle.theory.specs.Claims.{startOf, startDue, atCall, atServed, atPhases, atStart, atEnd}
+use Rattle.theory.specs.Claims.{startOf, firstReply, startDue, atCall, atServed, atPhases, atStart, atEnd}
 use Rattle.theory.specs.Designs.{designCommands, designSheet, designChoices, designServed, designBad, designStart, designStep, chosenBy, trying}
 use Rattle.theory.specs.Designs.{planningFor, writing, closingsFirst}
 
@@ -281,6 +281,7 @@ wrongSteps =
     ∷ row (stepWrites 1 1 ((65, 0) ∷ (66, 2) ∷ [])) claim.decodes (after [] breaker2Open)
     ∷ row (stepWrites 1 1 ((99, 0) ∷ (66, 1) ∷ [])) claim.decodes (after [] breaker2Open)
     ∷ row (stepServing (withBuffer (take 5))) claim.decodes (after [] breaker2Open)
+    ∷ row (stepWrites 0 1 ((99, 1) ∷ [])) claim.ends-after (after [] breaker2Open)
     ∷ row (stepWrites 0 1 ((66, 1) ∷ [])) claim.first-is (after [] breaker2Open)
     ∷ row (stepWrites 1 0 ((65, 0) ∷ [])) claim.second-is (after [] breaker2Open)
     ∷ row (stepServing noChoices) claim.dark-exactly (after [] breaker2Open)
@@ -330,7 +331,7 @@ unfolding below keep first anyOf allOf partCode samePart parts healthOfKind next
     wordRefusal earlier ordered bothPhases worldAfter afterCall run sum digest ringSum choiceNumber choicesSum operationNumber
     operationsDigest isDark feedNumber isClash onWorld onPhases due refusedInVain notRefused recordChanged bufferChanged choicesLit
     behindChanged lengthChanged darkThoughReached litThoughUnreached litByAnother darkThoughFed otherHealth otherCommand unfitAbove onAbove
-    anyClash otherChoice newCommands otherFirst otherSecond clashInFirst clashInSecond startOf startDue atCall atServed atPhases atStart
+    anyClash otherChoice newCommands otherFirst otherSecond clashInFirst clashInSecond startOf firstReply startDue atCall atServed atPhases atStart
     atEnd fails3 designCommands designSheet designChoices designServed designBad designStart designStep designController right chosenBy
     trying planningFor writing allBusesDark givesUp emptyPhases repeatsStart onePlan miscounts closingsFirst oneWave wavesExchanged
     stuckClosedOpen breakerBehind highFirst startSpoilt stepSpoilt whenRefused whenServed withRing withChoices withBuffer room callsOf
@@ -409,7 +410,7 @@ unfolding below keep first anyOf allOf partCode samePart parts healthOfKind next
     wordRefusal earlier ordered bothPhases worldAfter afterCall run sum digest ringSum choiceNumber choicesSum operationNumber
     operationsDigest isDark feedNumber isClash onWorld onPhases due refusedInVain notRefused recordChanged bufferChanged choicesLit
     behindChanged lengthChanged darkThoughReached litThoughUnreached litByAnother darkThoughFed otherHealth otherCommand unfitAbove onAbove
-    anyClash otherChoice newCommands otherFirst otherSecond clashInFirst clashInSecond startOf startDue atCall atServed atPhases atStart
+    anyClash otherChoice newCommands otherFirst otherSecond clashInFirst clashInSecond startOf firstReply startDue atCall atServed atPhases atStart
     atEnd fails3 designCommands designSheet designChoices designServed designBad designStart designStep designController right chosenBy
     trying planningFor writing allBusesDark givesUp emptyPhases repeatsStart onePlan miscounts closingsFirst oneWave wavesExchanged
     stuckClosedOpen breakerBehind highFirst startSpoilt stepSpoilt whenRefused whenServed withRing withChoices withBuffer room callsOf
@@ -466,7 +467,7 @@ unfolding below keep first anyOf allOf partCode samePart parts healthOfKind next
     wordRefusal earlier ordered bothPhases worldAfter afterCall run sum digest ringSum choiceNumber choicesSum operationNumber
     operationsDigest isDark feedNumber isClash onWorld onPhases due refusedInVain notRefused recordChanged bufferChanged choicesLit
     behindChanged lengthChanged darkThoughReached litThoughUnreached litByAnother darkThoughFed otherHealth otherCommand unfitAbove onAbove
-    anyClash otherChoice newCommands otherFirst otherSecond clashInFirst clashInSecond startOf startDue atCall atServed atPhases atStart
+    anyClash otherChoice newCommands otherFirst otherSecond clashInFirst clashInSecond startOf firstReply startDue atCall atServed atPhases atStart
     atEnd fails3 designCommands designSheet designChoices designServed designBad designStart designStep designController right chosenBy
     trying planningFor writing allBusesDark givesUp emptyPhases repeatsStart onePlan miscounts closingsFirst oneWave wavesExchanged
     stuckClosedOpen breakerBehind highFirst startSpoilt stepSpoilt whenRefused whenServed withRing withChoices withBuffer room callsOf
@@ -487,7 +488,7 @@ unfolding below keep first anyOf allOf partCode samePart parts healthOfKind next
     wordRefusal earlier ordered bothPhases worldAfter afterCall run sum digest ringSum choiceNumber choicesSum operationNumber
     operationsDigest isDark feedNumber isClash onWorld onPhases due refusedInVain notRefused recordChanged bufferChanged choicesLit
     behindChanged lengthChanged darkThoughReached litThoughUnreached litByAnother darkThoughFed otherHealth otherCommand unfitAbove onAbove
-    anyClash otherChoice newCommands otherFirst otherSecond clashInFirst clashInSecond startOf startDue atCall atServed atPhases atStart
+    anyClash otherChoice newCommands otherFirst otherSecond clashInFirst clashInSecond startOf firstReply startDue atCall atServed atPhases atStart
     atEnd fails3 designCommands designSheet designChoices designServed designBad designStart designStep designController right chosenBy
     trying planningFor writing allBusesDark givesUp emptyPhases repeatsStart onePlan miscounts closingsFirst oneWave wavesExchanged
     stuckClosedOpen breakerBehind highFirst startSpoilt stepSpoilt whenRefused whenServed withRing withChoices withBuffer room callsOf

@@ -45,9 +45,11 @@ loop-less c =
 
 loop-again : tie.Need-loop-again Inv-loop μ-loop
 loop-again c =
-    let d = c .before .before .before .before .before .before .before .before in
-    (filling-more (d .loop .inv .0) (c .before .before .before .before .before .before .before .loop-test .taken)
-    (c .before .before .before .before .next-line .ensures), search needs)
+    let d = c .before .before .before .before .before .before .before .before in (
+      filling-more (d .loop .inv .0) (c .before .before .before .before .before .before .before .loop-test .taken)
+          (c .before .before .before .before .next-line .ensures),
+      search needs,
+    )
 
 returns : tie.Need-returns Inv-loop μ-loop
 returns c =

@@ -52,7 +52,7 @@ returns-2 c =
     (c .before .before .before .start-line .ensures) (c .piece-of .ensures)
 
 report-line-requires : tie.Need-report-line-requires
-report-line-requires c κs = 
+report-line-requires c κs =
     let d = c .before .before in
     let s = d .before .before .before .before in
     (behind d .0, omega (arith, behind d .2), report-state (s .pre .0) _ (omega arith), s .pre .1)
