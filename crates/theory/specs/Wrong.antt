@@ -449,10 +449,11 @@ decodes : (decode 3 (1 ∷ 1 ∷ 65 ∷ 64 ∷ 0 ∷ 1 ∷ 9 ∷ []) ≡ some (r
     × (decode 3 (0 ∷ 1 ∷ 64 ∷ 2 ∷ []) ≡ none)
     × (decode 3 (0 ∷ 1 ∷ 67 ∷ 1 ∷ []) ≡ none)
     × (decode 3 (0 ∷ 1 ∷ 64 ∷ []) ≡ none)
+    × (decode 3 (0 ∷ 1 ∷ []) ≡ none)
     × (decode 3 [] ≡ none)
     × (operations 3 (64 ∷ []) [] ≡ none)
 unfolding decode phasesAt operations withOperation commandNamed partNamed partCode parts below first
-decodes = (refl, refl, refl, refl, refl, refl)
+decodes = (refl, refl, refl, refl, refl, refl, refl)
 
 -- the order of the operations is what is wrong with the fourth and fifth controller of `wrongMoments`: in the sheet's own order they
 -- clash nowhere
