@@ -1,7 +1,10 @@
 #!/usr/bin/env python3
 """Makes the stored cases of the vector programs from the simulation in tests/simulation, never from our own programs.
 
-    tests/make_vectors.py            writes crates/vectors*/data/cases and crates/vectors*/stdout
+    tests/make_vectors.py                       writes crates/vectors*/data/cases and stdout, and what the gate runs
+                                                ringplant and ringtrace on
+    tests/make_vectors.py --seed S --out DIR    writes other cases, DIR/vectors/cases and so on; a program of stored cases
+                                                reads the file `cases` of the folder that it is run in
 
 runs    fault files and their printed runs: for each 2 bytes length of the file, low byte first, the file, the text, and a
         byte 0.
@@ -11,6 +14,7 @@ step    starts and steps with damaged records and short buffers: n (and then 255
         report's kind, number and word, the buffer's length; then the number of the outcome, the record, for each of 20 buses
         the letter and source of its choice, and the buffer, which held 170 in every byte.
 """
+import argparse
 import itertools
 import os
 import random
@@ -156,17 +160,116 @@ def steps(rng):
     yield stepped(record, rs.Part(rs.BUS_BREAKER, 2), 2, 122)
 
 
-def store(crate, cases):
-    cases = list(cases)
-    os.makedirs(os.path.join(CRATES, crate, "data"), exist_ok=True)
-    with open(os.path.join(CRATES, crate, "data", "cases"), "wb") as out:
-        out.write(b"".join(cases))
-    with open(os.path.join(CRATES, crate, "stdout"), "w") as out:
-        out.write("%d cases, 0 differ\n" % len(cases))
-    print("%s: %d cases" % (crate, len(cases)))
+def feed_words(answer):
+    """An answer of the reckoning as ringplant prints it."""
+    words = {"dark": "dark", "fed": "G%d", "clash": "clash G%d G%d"}
+    return words[answer[0]] % tuple(answer[1:])
+
+
+def plant_text(n, health, commands):
+    """What ringplant prints."""
+    number, answers = rs.reckon(n, health, commands)
+    if number:
+        return "refused %d\n" % number
+    return "".join("B%d %s\n" % (bus, feed_words(answer)) for bus, answer in enumerate(answers[:n], start=1))
+
+
+def feeds_text(n, health, commands):
+    """What feeds each bus, as a line of ringtrace has it."""
+    marks = {"dark": "-", "fed": "G%d", "clash": "G%d!G%d"}
+    number, answers = rs.reckon(n, health, commands)
+    assert number == 0
+    return " ".join("B%d=%s" % (bus, marks[a[0]] % tuple(a[1:])) for bus, a in enumerate(answers[:n], start=1))
+
+
+def call_text(number, commands, answer, sheet):
+    """What ringtrace prints of a call: the ring after its word, and after each stroke. The orders are those before it."""
+    n, health, size = answer.record.n, answer.record.health, sheet[0] + sheet[1]
+    lines = ["%d %s\n" % (number, feeds_text(n, health, commands))]
+    for code, order in zip(sheet[2:2 + size], sheet[2 + size:]):
+        commands = {**commands, code: bool(order)}
+        lines.append("%s%s %s\n" % (rs.name_of(code), "+" if order else "-", feeds_text(n, health, commands)))
+    return "".join(lines)
+
+
+def trace_text(data):
+    """What ringtrace prints."""
+    file = rs.parse_fault_file(data)
+    if file.refusal:
+        return "refused %d\n" % file.refusal
+    sheet = bytearray(122)
+    answer = rs.start(file.n, sheet)
+    lines = ["ring %d reports %d\n" % (file.n, len(file.codes))]
+    lines.append(call_text(0, {code: False for code in rs.ALL_CODES}, answer, sheet))
+    for number, (code, word) in enumerate(zip(file.codes, file.words), start=1):
+        commands = answer.record.orders
+        answer = rs.step(answer.record, rs.report_of(code, word), sheet)
+        lines.append(call_text(number, commands, answer, sheet))
+    return "".join(lines)
+
+
+def gate_plant():
+    """A ring of twelve with a clash, buses fed by one generator and dark ones, over stuck breakers of both kinds."""
+    health = {code: 0 for code in rs.ALL_CODES}
+    commands = {code: False for code in rs.ALL_CODES}
+    for kind, number, word in (("BB", 1, 3), ("BB", 3, 2), ("GB", 6, 3), ("GB", 8, 2), ("G", 9, 1)):
+        health[rs.code_of(kind, number)] = word
+    for kind, number in (("G", 1), ("GB", 1), ("G", 2), ("GB", 2), ("BB", 2), ("BB", 3), ("G", 6), ("BB", 6), ("G", 8), ("GB", 8),
+                         ("G", 9), ("GB", 9), ("G", 11), ("GB", 11), ("G", 12), ("GB", 12), ("BB", 11)):
+        commands[rs.code_of(kind, number)] = True
+    return 12, health, commands
+
+
+# BB1 sticks closed between two running generators; BB2 sticks open; G1, G2 and G3 fail; BB2 comes back.
+GATE_TRACE = fault_file(3, [(64, 3), (65, 2), (0, 1), (1, 1), (2, 1), (65, 0)])
+
+
+def write(path, data):
+    os.makedirs(os.path.dirname(path), exist_ok=True)
+    with open(path, "wb") as out:
+        out.write(data)
+
+
+def all_cases(seeds):
+    """The stored cases of each program."""
+    yield "vectors", list(runs(random.Random(seeds[0])))
+    yield "vectors_plant", list(plant(random.Random(seeds[1])))
+    yield "vectors_step", list(steps(random.Random(seeds[2])))
+
+
+def stored_files():
+    """The files that are stored below crates/, and their bytes."""
+    for crate, cases in all_cases([1, 2, 3]):
+        yield os.path.join(crate, "data", "cases"), b"".join(cases)
+        yield os.path.join(crate, "stdout"), b"%d cases, 0 differ\n" % len(cases)
+    n, health, commands = gate_plant()
+    yield os.path.join("ringplant", "stdin"), bytes([n]) + places(health) + places(commands)
+    yield os.path.join("ringplant", "stdout"), plant_text(n, health, commands).encode()
+    yield os.path.join("ringtrace", "stdin"), GATE_TRACE
+    yield os.path.join("ringtrace", "stdout"), trace_text(GATE_TRACE).encode()
+
+
+def store():
+    for name, data in stored_files():
+        write(os.path.join(CRATES, name), data)
+        print("%s: %d bytes" % (name, len(data)))
+
+
+def make_others(seed, folder):
+    """Other cases, drawn by a seed."""
+    for crate, cases in all_cases(["%s %d" % (seed, k) for k in range(3)]):
+        write(os.path.join(folder, crate, "cases"), b"".join(cases))
+        print("%s: %d cases" % (crate, len(cases)))
 
 
 if __name__ == "__main__":
-    store("vectors", runs(random.Random(1)))
-    store("vectors_plant", plant(random.Random(2)))
-    store("vectors_step", steps(random.Random(3)))
+    parser = argparse.ArgumentParser(description=__doc__, formatter_class=argparse.RawDescriptionHelpFormatter)
+    parser.add_argument("--seed", help="a number or a word")
+    parser.add_argument("--out", help="the folder of the other cases")
+    given = parser.parse_args()
+    if (given.seed is None) != (given.out is None):
+        parser.error("--seed and --out go together")
+    if given.out is None:
+        store()
+    else:
+        make_others(given.seed, given.out)

@@ -1,26 +1,30 @@
 -- Document 01, "The printed run": the program's text as a list of bytes. A line feed ends every line.
+use mathlib.Core.Path.{_≡_}
 use mathlib.Core.Bool.{cond}
 use mathlib.Core.List.{List, [], _∷_, _++_, map}
-use Prim.Native.Nat.{ℕ, zero, suc, _+_, _/_, _%_}
+use Prim.Native.Nat.{ℕ, zero, suc, _+_, _*_, _/_, _%_, _<_}
 use Prim.Native.String.{String, [] as end, _∷_ as _then_}
 use Prim.Native.Char.{code}
 use lib.Dec.{ltb, eqb}
-use lib.ListN.{getD}
+use lib.ListN.{length, getD, drop}
 use Rattle.model.specs.declared.Part.{Part}
 use Rattle.model.specs.declared.Part.the-variants.{Generator, GeneratorBreaker, BusBreaker}
-use Rattle.model.specs.declared.Report.{Report}
 use Rattle.model.specs.declared.Ring.{Ring}
 use Rattle.model.specs.declared.Choice.{Choice}
 use Rattle.model.specs.declared.Choice.the-variants.{Dark}
 use Rattle.model.specs.declared.BusChoice.{BusChoice}
 use Rattle.model.specs.declared.ReportAnswer.{ReportAnswer}
 use Rattle.model.specs.declared.ReportAnswer.the-variants.{Read, Refused, Missing}
+use Rattle.model.specs.declared.RunCursor.{RunCursor}
 use Rattle.model.specs.Lists.{below}
 use Rattle.model.specs.Values.{number, choiceSource, choiceLetter}
+use Rattle.model.specs.Plant.{largest}
 use Rattle.model.specs.Choosing.{choices}
 use Rattle.model.specs.Sheet.{opening, closing}
-use Rattle.model.specs.Reports.{fileSize, fileCount, fileCodes, fileWords, healthOf, commandsOf, blankRing, told, planned, withPlan}
-use Rattle.model.specs.Refusals.{reportAnswer, fileRefusal}
+use Rattle.model.specs.Reports.{fileSize, fileCount, fileCodes, fileWords}
+use Rattle.model.specs.Reports.{healthOf, commandsOf, blankRing, told, planned, withPlan}
+use Rattle.model.specs.Refusals.{fileRefusal}
+use Rattle.model.specs.Answers.{reportAt}
 
 -- the bytes of a quoted text
 unfoldable pub ascii : String → List ℕ
@@ -78,23 +82,6 @@ transitionLine i ring =
     let old = commandsOf (ring .commands) in
     line i n (choices n (healthOf (ring .health))) (opening n old (planned ring)) (closing n old (planned ring))
 
--- the lines of the reports rs, the first of which is line i
-unfoldable pub reportLines : Ring → ℕ → List Report → List ℕ
-reportLines ring i [] = []
-reportLines ring i (r ∷ rs) = transitionLine i (told ring r) ++ reportLines (withPlan (told ring r)) (suc i) rs
-
--- a report that was read, before others
-unfoldable pub withReport : ReportAnswer → List Report → List Report
-withReport (Read r) rs = r ∷ rs
-withReport (Refused k) rs = rs
-withReport Missing rs = rs
-
--- the reports of a served file's part codes and words
-unfoldable pub reportsOf : ℕ → List ℕ → List ℕ → List Report
-reportsOf n [] vs = []
-reportsOf n (c ∷ cs) [] = []
-reportsOf n (c ∷ cs) (v ∷ vs) = withReport (reportAnswer n c v) (reportsOf n cs vs)
-
 -- "a header"
 unfoldable pub header : ℕ → ℕ → List ℕ
 header n m = ascii "ring " ++ (decimal n ++ (ascii " reports " ++ (decimal m ++ ascii "\n")))
@@ -103,14 +90,70 @@ header n m = ascii "ring " ++ (decimal n ++ (ascii " reports " ++ (decimal m ++ 
 unfoldable pub refusedText : ℕ → List ℕ
 refusedText k = ascii "refused " ++ (decimal k ++ ascii "\n")
 
+-- a ring that was told the report of an answer, if it is one
+unfoldable pub toldAnswer : Ring → ReportAnswer → Ring
+toldAnswer ring (Read r) = told ring r
+toldAnswer ring (Refused k) = ring
+toldAnswer ring Missing = ring
+
+-- "line 0 for the start, and a line per report": the ring of line i, started and told the first i reports, the last one before its plan
+unfoldable pub runRing : List ℕ → ℕ → Ring
+runRing f zero = blankRing (fileSize f)
+runRing f (suc i) =
+    let ring = runRing f i in
+    toldAnswer (withPlan ring) (reportAt (fileSize f) (fileCodes f) (fileWords f) i)
+
 -- "Otherwise a header, line 0 for the start, and a line per report"
-unfoldable pub servedText : List ℕ → List ℕ
-servedText f =
-    let n = fileSize f in
-    header n (fileCount f)
-    ++ (transitionLine 0 (blankRing n)
-    ++ reportLines (withPlan (blankRing n)) 1 (reportsOf n (fileCodes f) (fileWords f)))
+unfoldable pub servedLines : List ℕ → List (List ℕ)
+servedLines f = header (fileSize f) (fileCount f) ∷ map (λ i. transitionLine i (runRing f i)) (below (suc (fileCount f)))
+
+-- "For a refused file it prints only `refused` and the number"
+unfoldable pub refusedLines : ℕ → List (List ℕ)
+refusedLines k = refusedText k ∷ []
+
+-- the lines of a file's run
+unfoldable pub runLines : List ℕ → List (List ℕ)
+runLines f = cond (eqb (fileRefusal f) 0) (servedLines f) (refusedLines (fileRefusal f))
+
+-- texts one after the other
+unfoldable pub joined : List (List ℕ) → List ℕ
+joined [] = []
+joined (t ∷ ts) = t ++ joined ts
 
 -- the printed run of a fault file
 unfoldable pub printedRun : List ℕ → List ℕ
-printedRun f = cond (eqb (fileRefusal f) 0) (servedText f) (refusedText (fileRefusal f))
+printedRun f = joined (runLines f)
+
+-- ---- the run in pieces
+
+-- what is left of the run behind its first k lines: all of it behind none
+unfoldable pub runLeft : List ℕ → ℕ → List ℕ
+runLeft f k = joined (drop k (runLines f))
+
+-- the ring state behind the first k lines: none before line 0, which is the second; then that after the plan of the line before
+unfoldable pub stateAt : List ℕ → ℕ → Ring
+stateAt f zero = blankRing 0
+stateAt f (suc zero) = blankRing 0
+stateAt f (suc (suc i)) = withPlan (runRing f i)
+
+-- the cursor behind the first k lines
+unfoldable pub cursorAt : List ℕ → ℕ → RunCursor
+cursorAt f k = record { place = k; ring = stateAt f k }
+
+-- a cursor of the run of a file, of which something is left
+pub record Within (f : List ℕ) (c : RunCursor) : Type 0 where
+  pub cursor : c ≡ cursorAt f (c .place)
+  pub more : c .place < length (runLines f)
+
+-- room for any line: 4 digits of its number; 9 bytes a bus, as ` B20=G20h`; two phases, 2 bytes each, and at least 2 if it is empty;
+-- 6 bytes an operation, as ` BB20+`; a line feed
+abbrev pub lineRoom : ℕ
+lineRoom = 4 + 9 * largest + 2 * 4 + 6 * (3 * largest) + 1
+
+-- no file that is served is longer: "m above 4096", "file length other than 3 + 2m"
+abbrev pub longestFile : ℕ
+longestFile = 3 + 2 * 4096
+
+-- as much of a file as decides its run: a longer file is refused by its first 3 bytes or by 4, and one byte more tells that it is longer
+abbrev pub readSize : ℕ
+readSize = longestFile + 1

@@ -122,3 +122,16 @@ pub enum FileAnswer {
     Served(u8, usize),
     Refused(u8),
 }
+
+// How far the printed run of a file has come: the lines passed, of which a header or a refusal is one, and the ring state behind them.
+pub struct RunCursor {
+    pub place: usize,
+    pub ring: Ring,
+}
+
+// A piece of a printed run in the front of a lent buffer: the cursor behind it, its length, and whether more follows.
+pub struct RunPiece {
+    pub cursor: RunCursor,
+    pub length: usize,
+    pub more: bool,
+}

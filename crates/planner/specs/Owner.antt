@@ -8,7 +8,7 @@ use mathlib.Core.Option.{Option, none, some}
 use Prim.Native.Nat.{ℕ, zero, suc, _≤_, _<_}
 use native.Mathlib.Omega.{arith}
 use lib.Dec.{eqb}
-use borrow.Author.Tests.{eqb-true, eq-eqb, not-true}
+use borrow.Author.Tests.{eqb-true, eq-eqb, ne-eqb, not-true}
 use Rattle.model.specs.Lists.{first, _∈_}
 use Rattle.model.specs.Plant.{PartHealth, generator, generatorBreaker, busBreaker, fit, stuckOpen, stuckClosed, next, up, Leads, connected}
 use Rattle.model.specs.Priority.{Path, pathBusBreakers, paths}
@@ -107,6 +107,20 @@ module _ {n : ℕ} {w : Path} (h : Ends n w) where
 -- the generator may feed: it is fit, and its breaker is not stuck open
 unfoldable pub mayFeed : PartHealth → ℕ → Bool
 mayFeed H g = fit (H (generator g)) && not (stuckOpen (H (generatorBreaker g)))
+
+-- .. of a generator of health g with a breaker of health h, by cases of the numbers: however the code words its test
+module _ (g h : ℕ) {k : Bool} (is : k ≡ fit g) where
+  pub fed-by : {r : Bool} → k ≡ true → (h ≡ 2 → r ≡ true → ⊥) → (h ≢ 2 → r ≡ false → ⊥) → r ≡ fit g && not (stuckOpen h)
+  fed-by {r} e p q = rw (← is, e) (go (dec-eq h 2) (dec r))
+    where
+      go : (h ≡ 2) ⊎ (h ≢ 2) → (r ≡ true) ⊎ (r ≡ false) → r ≡ not (stuckOpen h)
+      go (inl i) (inl z) = absurd (p i z)
+      go (inl i) (inr z) = rw (eq-eqb h 2 i) z
+      go (inr i) (inl z) = rw (ne-eqb h 2 i) z
+      go (inr i) (inr z) = absurd (q i z)
+
+  pub unfed-by : k ≡ false → false ≡ fit g && not (stuckOpen h)
+  unfed-by e = rw (← is, e)
 
 -- the number of bus breakers of a path
 abbrev pub pathSteps : ℕ → Path → ℕ

@@ -10,7 +10,7 @@ use native.Mathlib.Numerals.{add-one}
 use lib.Dec.{ltb, eqb}
 use lib.ListN.{getD, drop, length, drop-of-length-le}
 use lib.Seq.{drop-cons}
-use borrow.Author.Tests.{not-true, not-false, ltb-true, lt-ltb, le-ltb, eq-eqb, ne-eqb, le-leb}
+use borrow.Author.Tests.{not-true, not-false, ltb-true, lt-ltb, le-ltb, eq-eqb, ne-eqb, le-leb, lt-leb}
 use Rattle.model.specs.Lists.{first}
 use Rattle.model.specs.Plant.{up}
 use Rattle.model.specs.Priority.{Path, sources, highRises, pathsFrom, paths}
@@ -68,6 +68,32 @@ span-lt n b g r hb hg =
     let w = pathTo b g r in
     let h : Ends n w = record { source = hg; bus = hb } in
     (lower-lt h, up-lt n (lower w) (upper w) (lower-lt h) (upper-lt h))
+
+-- ---- a path's direction and a generator's number of paths, by cases of the numbers: however the code words its test
+
+pub high-by : (n g b : ℕ) (t : Bool) → (up n g b ≤ up n b g → t ≡ false → ⊥) → (up n b g < up n g b → t ≡ true → ⊥) → t ≡ highRises n g b
+unfolding highRises
+high-by n g b t p q = go (dec-lt (up n b g) (up n g b)) (dec t)
+  where
+    go : (up n b g < up n g b) ⊎ (up n g b ≤ up n b g) → (t ≡ true) ⊎ (t ≡ false) → t ≡ highRises n g b
+    go (inl l) (inl e) = absurd (q l e)
+    go (inl l) (inr e) = rw (lt-leb (up n g b) (up n b g) l) e
+    go (inr l) (inl e) = rw (le-leb (up n g b) (up n b g) l) e
+    go (inr l) (inr e) = absurd (p l e)
+
+pub count-by : (b g : ℕ) {r : ℕ} → (g ≡ b → r ≡ 1) → (g ≢ b → r ≡ 2) → r ≡ pathCount b g
+count-by b g {r} own two = go (dec-eq g b)
+  where
+    go : (g ≡ b) ⊎ (g ≢ b) → r ≡ pathCount b g
+    go (inl e) = rw (eq-eqb g b e) (own e)
+    go (inr e) = rw (ne-eqb g b e) (two e)
+
+pub rises-by : (n b g p : ℕ) {t : Bool} → (p ≡ 0 → t ≡ highRises n g b) → (p ≢ 0 → t ≡ not (highRises n g b)) → t ≡ pathRises n b g p
+rises-by n b g p {t} h l = go (dec-eq p 0)
+  where
+    go : (p ≡ 0) ⊎ (p ≢ 0) → t ≡ pathRises n b g p
+    go (inl e) = rw (eq-eqb p 0 e) (h e)
+    go (inr e) = rw (ne-eqb p 0 e) (l e)
 
 -- ---- the paths of one generator
 

@@ -49,10 +49,10 @@ fn bus_beside(n: usize, k: usize, rising: bool) -> usize
 pub fn free(owner: u8, number: u8) -> bool
     ensures { λ r. ⌜ r ≡ mayConnect owner number ⌝ }
 {
-    if owner == 0 {
-        return true;
+    if owner != 0 {
+        return owner == number;
     }
-    owner == number
+    true
 }
 
 // Whether the walk of this many steps from a bus through rising bus numbers meets no bus breaker that is stuck open, and

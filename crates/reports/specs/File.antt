@@ -1,5 +1,5 @@
 -- The fault file: its refusal by the tests of its head, in their order, then by its reports; and how much of it decides.
-use mathlib.Core.Path.{_≡_, refl, sym, _∙_}
+use mathlib.Core.Path.{_≡_, refl, sym, _∙_, ap}
 use mathlib.Core.Bool.{Bool, true, false, not, cond}
 use mathlib.Core.Logic.{_⊎_, inl, inr, _≢_}
 use mathlib.Core.List.{List, [], _∷_}
@@ -18,7 +18,7 @@ use Rattle.model.specs.Values.{outcomeOf, fileValues}
 use Rattle.model.specs.Reports.{fileSize, fileCount, fileCodes, fileWords}
 use Rattle.model.specs.Refusals.{firstMet, orElse, sizeOutside, reportsRefusal, fileRefusal}
 use Rattle.model.specs.Answers.{fileAnswer}
-use Rattle.model.specs.Text.{servedText, refusedText, printedRun}
+use Rattle.model.specs.Text.{servedLines, refusedLines, runLines, joined, printedRun, longestFile, readSize}
 use Rattle.model.specs.Laws.Tests.{dec, dec-lt, by-cond}
 use Rattle.model.specs.Laws.Refusals.{inside, outside, when-served, when-refused}
 
@@ -99,15 +99,11 @@ module _ (f : List ℕ) where
 
 -- ---- how much of a file decides
 
--- one byte more than the largest file that is served
-abbrev pub readLimit : ℕ
-readLimit = 8196
-
 -- the refusal of a file that is longer than any that is served
 longRefusal : ℕ → ℕ → ℕ
 longRefusal n m = cond (sizeOutside n) 2 (cond (ltb 4096 m) 3 4)
 
-long-head : (l n m : ℕ) → 8195 < l → headRefusal l n m ≡ longRefusal n m
+long-head : (l n m : ℕ) → longestFile < l → headRefusal l n m ≡ longRefusal n m
 unfolding longRefusal
 long-head l n m h = go (dec (sizeOutside n)) (dec-lt 4096 m)
   where
@@ -130,25 +126,30 @@ module _ {A : Type 0} (served : List ℕ → A) (refused : ℕ → A) where
   made : List ℕ → A
   made f = cond (eqb (fileRefusal f) 0) (served f) (refused (fileRefusal f))
 
-  made-long : (f : List ℕ) → 8195 < length f → made f ≡ refused (longRefusal (fileSize f) (fileCount f))
+  made-long : (f : List ℕ) → longestFile < length f → made f ≡ refused (longRefusal (fileSize f) (fileCount f))
   unfolding made
   made-long f h = let r = head-refused f _ (long-head _ _ _ h) (long-refused _ _) .1 in rw (← r, long-refused (fileSize f) (fileCount f))
 
-  made-read : (f : List ℕ) → made (take readLimit f) ≡ made f
-  made-read f = go (dec-lt readLimit (length f))
+  made-read : (f : List ℕ) → made (take readSize f) ≡ made f
+  made-read f = go (dec-lt readSize (length f))
     where
-      go : (readLimit < length f) ⊎ (length f ≤ readLimit) → made (take readLimit f) ≡ made f
+      go : (readSize < length f) ⊎ (length f ≤ readSize) → made (take readSize f) ≡ made f
       go (inl h) =
-          made-long (take readLimit f) (rw (length-take-le readLimit f (omega arith)) (omega arith))
-          ∙ rw (getD-take readLimit f 0 0 (omega arith), getD-take readLimit f 1 0 (omega arith), getD-take readLimit f 2 0 (omega arith)) (sym (made-long f (omega arith)))
-      go (inr h) = rw (take-all readLimit f)
+          made-long (take readSize f) (rw (length-take-le readSize f (omega arith)) (omega arith))
+          ∙ rw (getD-take readSize f 0 0 (omega arith), getD-take readSize f 1 0 (omega arith), getD-take readSize f 2 0 (omega arith)) (sym (made-long f (omega arith)))
+      go (inr h) = rw (take-all readSize f)
 
--- the first 8,196 bytes of a file, however long, have its answer
-pub answer-read : (f : List ℕ) → fileAnswer (take readLimit f) ≡ fileAnswer f
+-- what is read of a file, however long, has its answer
+pub answer-read : (f : List ℕ) → fileAnswer (take readSize f) ≡ fileAnswer f
 unfolding fileAnswer made
 answer-read = made-read (λ f. file.Served (fileSize f) (fileCount f)) file.Refused
 
+-- and the lines of its run
+lines-read : (f : List ℕ) → runLines (take readSize f) ≡ runLines f
+unfolding runLines made
+lines-read = made-read servedLines refusedLines
+
 -- and its printed run
-pub run-read : (f : List ℕ) → printedRun (take readLimit f) ≡ printedRun f
-unfolding printedRun made
-run-read = made-read servedText refusedText
+pub run-read : (f : List ℕ) → printedRun (take readSize f) ≡ printedRun f
+unfolding printedRun
+run-read f = ap joined (lines-read f)

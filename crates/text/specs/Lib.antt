@@ -1,3 +1,4 @@
+-- What the texts are made of, and the laws of the printed run.
 pub mod Numbers
 pub mod Spaced
 pub mod Buses
@@ -5,4 +6,4 @@ pub mod Operations
 pub mod SheetLine
 pub mod Lines
 pub mod Served
-pub mod Whole
+pub mod Run

@@ -1,111 +1,133 @@
--- The lines of the printed run one at a time, each with the ring state after it. Reports are counted from 0, and report i has line i + 1.
-use mathlib.Core.List.{List, [], _++_, append-assoc, append-nil}
-use mathlib.Core.Path.{_≡_, refl, ap}
-use Prim.Native.Nat.{ℕ, zero, suc, _+_, _-_, _≤_}
-use native.Mathlib.Nat.{zero-add, suc-add}
+-- Texts in the front of a lent buffer, one behind the other, and the lines of a run. Places and reports are counted from 0.
+use mathlib.Core.List.{List, [], _∷_, _++_, append-assoc, append-nil}
+use mathlib.Core.Path.{_≡_, refl, sym, _∙_, ap}
+use mathlib.Core.Bool.{Bool, true, false}
+use Prim.Native.Nat.{ℕ, zero, suc, _+_, _-_, _≤_, _<_}
 use native.Mathlib.Omega.{arith}
-use lib.ListN.{length, drop, length-append, length-drop}
-use lib.Seq.{take-length, drop-length, take-append-seam, drop-append-seam, drop-drop}
+use lib.Dec.{ltb}
+use lib.ListN.{length, getD, take, drop, length-append, length-drop}
+use lib.Seq.{take-length, drop-length, drop-cons, take-append-seam, drop-append-seam, drop-drop}
+use borrow.Author.Tests.{ltb-true, lt-ltb}
 use borrow.Rule.Slice.PartMut.{midOf, putMid}
 use Rattle.model.specs.declared.Ring.{Ring}
-use Rattle.model.specs.declared.ReportAnswer.{ReportAnswer}
-use Rattle.model.specs.declared.ReportAnswer.the-variants.{Read, Refused, Missing}
-use Rattle.model.specs.Reports.{allFit, blankRing, withPlan}
-use Rattle.model.specs.Refusals.{nextHealth}
-use Rattle.model.specs.Answers.{reportAt}
+use Rattle.model.specs.declared.RunCursor.{RunCursor}
+use Rattle.model.specs.declared.RunPiece.{RunPiece}
+use Rattle.model.specs.Reports.{withPlan}
 use Rattle.model.specs.Sheet.{written}
-use Rattle.model.specs.Text.{transitionLine}
-use Rattle.text.specs.SheetLine.{room}
+use Rattle.model.specs.Text.{transitionLine, runLines, joined, runLeft, cursorAt, Within}
+use Rattle.model.specs.Laws.Tests.{contra}
 
--- the line of the start
-abbrev pub startLine : ℕ → List ℕ
-startLine n = transitionLine 0 (blankRing n) allFit
+-- ---- definitions
 
--- .. and the ring state after it
-abbrev pub startRing : ℕ → Ring
-startRing n = withPlan (blankRing n) allFit
-
--- a report's line, none where no report stands
-unfoldable pub lineOf : ReportAnswer → Ring → ℕ → List ℕ
-lineOf (Read r) ring i = transitionLine (suc i) ring (nextHealth ring r)
-lineOf (Refused k) ring i = []
-lineOf Missing ring i = []
-
--- .. and the ring state after it
-unfoldable pub ringOf : ReportAnswer → Ring → Ring
-ringOf (Read r) ring = withPlan ring (nextHealth ring r)
-ringOf (Refused k) ring = ring
-ringOf Missing ring = ring
-
--- the line of the i-th report of a file's part codes and words
-abbrev pub reportLine : Ring → List ℕ → List ℕ → ℕ → List ℕ
-reportLine ring cs ws i = lineOf (reportAt (ring .n) cs ws i) ring i
-
--- .. and the ring state after it
-abbrev pub nextRing : Ring → List ℕ → List ℕ → ℕ → Ring
-nextRing ring cs ws i = ringOf (reportAt (ring .n) cs ws i) ring
-
--- k lines from report i on
-unfoldable pub linesFrom : Ring → List ℕ → List ℕ → ℕ → ℕ → List ℕ
-linesFrom ring cs ws i zero = []
-linesFrom ring cs ws i (suc k) = reportLine ring cs ws i ++ linesFrom (nextRing ring cs ws i) cs ws (suc i) k
-
--- the ring state after them
-unfoldable pub ringFrom : Ring → List ℕ → List ℕ → ℕ → ℕ → Ring
-ringFrom ring cs ws i zero = ring
-ringFrom ring cs ws i (suc k) = ringFrom (nextRing ring cs ws i) cs ws (suc i) k
-
--- a text stands in a buffer that was lent: the buffer before and after, and the text's length
+-- a text stands in the front of a lent buffer: the buffer before and after, and the text's length
 pub record Stored (text before after : List ℕ) (size : ℕ) : Type 0 where
   pub bytes : after ≡ written text before
   pub sized : size ≡ length text
-  pub fits : size ≤ room
 
--- the same of a text of many lines
-pub record Filled (text before after : List ℕ) (size : ℕ) : Type 0 where
-  pub bytes : after ≡ written text before
-  pub sized : size ≡ length text
-  pub fits : size ≤ length after
+-- line i of a ring that was told its reports stands there, and next is the ring state behind it
+pub record Shown (i : ℕ) (ring : Ring) (before after : List ℕ) (next : Ring) (size : ℕ) : Type 0 where
+  pub state : next ≡ withPlan ring
+  pub stored : Stored (transitionLine i ring) before after size
+
+-- the line at place k of a file's run stands there
+pub record Passed (f : List ℕ) (k : ℕ) (before after : List ℕ) (p : RunPiece) : Type 0 where
+  pub cursor : p .cursor ≡ cursorAt f (suc k)
+  pub stored : Stored (getD (runLines f) k []) before after (p .length)
+  pub some : 0 < p .length
+  pub more : p .more ≡ ltb (suc k) (length (runLines f))
+
+-- the lines from place k of a file's run up to a cursor stand there; where nothing is left or no room, there is one
+pub record Filling (f : List ℕ) (k : ℕ) (before after : List ℕ) (c : RunCursor) (size : ℕ) (goes : Bool) : Type 0 where
+  pub run : runLeft f k ≡ take size after ++ runLeft f (c .place)
+  pub stored : Stored (take size after) before after size
+  pub cursor : c ≡ cursorAt f (c .place)
+  pub more : goes ≡ ltb (c .place) (length (runLines f))
+  pub some : goes ≡ false → 0 < size
 
 -- ---- laws
 
--- what was written fits
-pub filled : {text before after : List ℕ} {size : ℕ} → after ≡ written text before → size ≡ length text → Filled text before after size
+-- what was stored is in front, the rest keeps its values, and all fits
+pub stored-front : {text before after : List ℕ} {size : ℕ} → Stored text before after size → take size after ≡ text
 unfolding written
-filled {text} {before} e f = record { bytes = e; sized = f; fits = rw (e, f) (omega (arith, length-append text (drop (length text) before))) }
+stored-front {text} {before} s = rw (s .bytes, s .sized) (take-append-seam text (drop (length text) before))
+
+pub stored-kept : {text before after : List ℕ} {size : ℕ} → Stored text before after size → drop size after ≡ drop size before
+unfolding written
+stored-kept {text} {before} s = rw (s .bytes, s .sized) (drop-append-seam text (drop (length text) before))
+
+pub stored-fits : {text before after : List ℕ} {size : ℕ} → Stored text before after size → size ≤ length after
+unfolding written
+stored-fits {text} {before} s = rw (s .bytes, s .sized) (omega (arith, length-append text (drop (length text) before)))
+
+pub stored-none : (buffer : List ℕ) → Stored [] buffer buffer 0
+unfolding written
+stored-none buffer = record { bytes = refl; sized = refl }
 
 -- a text behind another, in the part of the buffer that is left
-filled-more : {xs ys before between last : List ℕ} {size more : ℕ} → Filled xs before between size → Stored ys (midOf size (length between - size) between) last more
-    → Filled (xs ++ ys) before (putMid size (length between - size) between last) (size + more)
+pub stored-more : {xs ys before between last : List ℕ} {size more : ℕ} → Stored xs before between size
+    → Stored ys (midOf size (length between - size) between) last more
+    → Stored (xs ++ ys) before (putMid size (length between - size) between last) (size + more)
 unfolding written
-filled-more {xs} {ys} {between = between} {size = size} s t =
-    filled
-    (rw (t .bytes, ← length-drop size between, take-length, drop-length, append-nil, s .bytes, s .sized, take-append-seam, drop-append-seam, drop-drop, length-append, append-assoc))
-    (omega (arith, s .sized, t .sized, length-append xs ys))
+stored-more {xs} {ys} {between = between} {size = size} s t =
+    record {
+      bytes = rw (
+        t .bytes,
+        ← length-drop size between,
+        take-length,
+        drop-length,
+        append-nil,
+        s .bytes,
+        s .sized,
+        take-append-seam,
+        drop-append-seam,
+        drop-drop,
+        length-append,
+        append-assoc,
+      );
+      sized = omega (arith, s .sized, t .sized, length-append xs ys);
+    }
 
-module _ (cs ws : List ℕ) where
-  -- k + l lines from report i on are k lines, and then l lines from report j on
-  pub lines-split : (k l i j : ℕ) (ring : Ring) → i + k ≡ j
-      → (linesFrom ring cs ws i (k + l) ≡ linesFrom ring cs ws i k ++ linesFrom (ringFrom ring cs ws i k) cs ws j l)
-      × (ringFrom ring cs ws i (k + l) ≡ ringFrom (ringFrom ring cs ws i k) cs ws j l)
-  unfolding linesFrom ringFrom
-  lines-split zero l i j ring e = let z : i ≡ j = omega arith in rw (zero-add, z) (refl, refl)
-  lines-split (suc k) l i j ring e =
-      let more = lines-split k l (suc i) j (nextRing ring cs ws i) (omega arith) in
-      rw (suc-add, append-assoc) (ap (λ l. reportLine ring cs ws i ++ l) (more .0), more .1)
+-- the line at a place is the first of what is left there
+pub left-line : (f : List ℕ) (k : ℕ) → k < length (runLines f) → runLeft f k ≡ getD (runLines f) k [] ++ runLeft f (suc k)
+unfolding runLeft joined
+left-line f k h = rw (drop-cons (runLines f) k [] h)
 
-  -- nothing but the first ring state where no report was passed
-  pub lines-none : (first : Ring) (i : ℕ) (buffer : List ℕ) → (first ≡ ringFrom first cs ws i (i - i)) × Filled (linesFrom first cs ws i (i - i)) buffer buffer 0
-  unfolding linesFrom ringFrom written
-  lines-none first i buffer = let z : i - i ≡ 0 = omega arith in rw z (refl, filled refl refl)
+pub filling-none : {f : List ℕ} {c : RunCursor} → Within f c → (buffer : List ℕ) → Filling f (c .place) buffer buffer c 0 true
+filling-none {f} {c} w buffer =
+    record {
+      run = refl;
+      stored = stored-none buffer;
+      cursor = w .cursor;
+      more = sym (lt-ltb (c .place) (length (runLines f)) (w .more));
+      some = λ e. contra refl e;
+    }
 
-  -- the line of report j behind those before it
-  pub lines-more : (first : Ring) {ring after : Ring} {before between last : List ℕ} {i j size more : ℕ} → i ≤ j
-      → ring ≡ ringFrom first cs ws i (j - i) → Filled (linesFrom first cs ws i (j - i)) before between size
-      → after ≡ nextRing ring cs ws j → Stored (reportLine ring cs ws j) (midOf size (length between - size) between) last more
-      → (after ≡ ringFrom first cs ws i (j + 1 - i)) × Filled (linesFrom first cs ws i (j + 1 - i)) before (putMid size (length between - size) between last) (size + more)
-  unfolding linesFrom ringFrom
-  lines-more first {i = i} {j} h r s r′ s′ =
-      let z : j + 1 - i ≡ (j - i) + 1 = omega arith in
-      let more = lines-split (j - i) 1 i j first (omega arith) in
-      rw (z, more .0, more .1, ← r, append-nil) (r′, filled-more s s′)
+-- where more is left, the next line can be put
+pub filling-within : {f before after : List ℕ} {k size : ℕ} {c : RunCursor} {goes : Bool} → Filling f k before after c size goes → goes ≡ true
+    → Within f c
+filling-within {f} {c = c} s e =
+    record { cursor = s .cursor; more = ltb-true (c .place) (length (runLines f)) (sym (s .more) ∙ e) }
+
+-- a line that was passed brings the end nearer
+pub passed-less : {f before after : List ℕ} {c : RunCursor} {p : RunPiece} → Within f c → Passed f (c .place) before after p
+    → length (runLines f) - p .cursor .place < length (runLines f) - c .place
+unfolding cursorAt
+passed-less {f} {c = c} {p} w t =
+    let next : p .cursor .place ≡ suc (c .place) = ap (λ (x : RunCursor). x .place) (t .cursor) in
+    omega (arith, w .more)
+
+-- one line more
+pub filling-more : {f before between last : List ℕ} {k size : ℕ} {c : RunCursor} {p : RunPiece} {goes : Bool}
+    → Filling f k before between c size goes → goes ≡ true → Passed f (c .place) (midOf size (length between - size) between) last p
+    → Filling f k before (putMid size (length between - size) between last) (p .cursor) (size + p .length) (p .more)
+unfolding cursorAt
+filling-more {f} {c = c} {p = p} s e t =
+    let both = stored-more (s .stored) (t .stored) in
+    let next : p .cursor .place ≡ suc (c .place) = ap (λ (x : RunCursor). x .place) (t .cursor) in
+    record {
+      run = s .run ∙ rw (left-line f (c .place) (filling-within s e .more), next, stored-front both, append-assoc);
+      stored = rw (stored-front both) both;
+      cursor = t .cursor ∙ ap (cursorAt f) (sym next);
+      more = rw next (t .more);
+      some = λ z. omega (arith, t .some);
+    }

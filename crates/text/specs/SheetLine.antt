@@ -11,7 +11,7 @@ use Rattle.model.specs.Lists.{below, _∈_}
 use Rattle.model.specs.Values.{partCode}
 use Rattle.model.specs.Plant.{largest, InRing}
 use Rattle.model.specs.Sheet.{sheetOf, written}
-use Rattle.model.specs.Text.{ascii, decimal, spaced, busText, line, header, refusedText}
+use Rattle.model.specs.Text.{ascii, decimal, spaced, busText, line, header, refusedText, lineRoom}
 use Rattle.model.specs.Laws.Lists.{below-length}
 use Rattle.text.specs.Numbers.{decimal-length}
 use Rattle.text.specs.Spaced.{behindSpaces, behind-spaced}
@@ -52,10 +52,6 @@ sheetLine i n cs bytes = decimal i ++ (ascii " " ++ (spaced (map (busText cs) (b
 pub record SheetBytes (bytes : List ℕ) : Type 0 where
   pub whole : 2 + 2 * (openingSize bytes + closingSize bytes) ≤ length bytes
   pub few : openingSize bytes + closingSize bytes ≤ 3 * largest
-
--- room for a line: the longest has 553 bytes, its number 4, 20 buses 9 each, two phases 4 each, 60 operations 6 each, a line feed
-abbrev pub room : ℕ
-room = 640
 
 -- ---- a sheet's line is the model's
 
@@ -121,7 +117,7 @@ module _ (bytes : List ℕ) (s : SheetBytes bytes) where
   closing-length =
       within bytes (closingSize bytes) (2 + openingSize bytes) (2 + openingSize bytes + closingSize bytes + openingSize bytes) (omega (arith, s .whole)) (omega (arith, s .whole))
 
-  pub line-length : (i n : ℕ) (cs : List BusChoice) → i < 10000 → 0 < n → n ≤ largest → AllNamed n cs → length (sheetLine i n cs bytes) ≤ room
+  pub line-length : (i n : ℕ) (cs : List BusChoice) → i < 10000 → 0 < n → n ≤ largest → AllNamed n cs → length (sheetLine i n cs bytes) ≤ lineRoom
   unfolding ascii
   line-length i n cs h p l c =
       let a = decimal i in
@@ -131,16 +127,11 @@ module _ (bytes : List ℕ) (s : SheetBytes bytes) where
       rw (line-parts i n cs bytes p)
       (omega (arith, length-append (a ++ b ++ (o ++ d)) (ascii "\n"), length-append (a ++ b) (o ++ d), length-append a b, length-append o d, decimal-length 3 i h, buses-length cs n l c, opening-length, closing-length, s .few))
 
--- the model's line fits
-pub line-fits : (i n : ℕ) (cs : List BusChoice) (xs ys : List Part) → i < 10000 → 0 < n → n ≤ largest → AllNamed n cs → length xs + length ys ≤ 3 * largest
-    → ((p : Part) → p ∈ xs → InRing n p) → ((p : Part) → p ∈ ys → InRing n p) → length (line i n cs xs ys) ≤ room
-line-fits i n cs xs ys h p l c k r s = rw (← sheet-line xs ys [] i n cs l r s) (line-length _ (sheet-is xs ys [] k) i n cs h p l c)
-
-pub header-fits : (n m : ℕ) → n < 10000 → m < 10000 → length (header n m) ≤ room
+pub header-fits : (n m : ℕ) → n < 10000 → m < 10000 → length (header n m) ≤ lineRoom
 unfolding header ascii
 header-fits n m h l =
     omega (arith, length-append (decimal n) (ascii " reports " ++ (decimal m ++ ascii "\n")), length-append (decimal m) (ascii "\n"), decimal-length 3 n h, decimal-length 3 m l)
 
-pub refused-fits : (k : ℕ) → k < 10000 → length (refusedText k) ≤ room
+pub refused-fits : (k : ℕ) → k < 10000 → length (refusedText k) ≤ lineRoom
 unfolding refusedText ascii
 refused-fits k h = omega (arith, length-append (decimal k) (ascii "\n"), decimal-length 3 k h)

@@ -2,30 +2,35 @@
 // there is room for. An `append_` function stores its text from `at` on and answers the place behind it.
 ghost use mathlib.Core.Path.{_≡_};
 ghost use mathlib.Core.Bool.{false};
-ghost use mathlib.Core.List.{_++_, map, zipWith};
-ghost use Prim.Native.Nat.{_+_, _-_, _*_, _<_, _≤_};
-ghost use lib.ListN.{length};
+ghost use mathlib.Core.List.{List, _++_, map, zipWith};
+ghost use Prim.Native.Nat.{ℕ, _+_, _*_, _<_, _≤_};
+ghost use lib.Dec.{ltb};
+ghost use lib.ListN.{length, take, drop};
 ghost use Rattle.model.specs.Lists.{below};
 ghost use Rattle.model.specs.Values.{choiceSource, choiceLetter};
 ghost use Rattle.model.specs.Sheet.{written};
-ghost use Rattle.model.specs.Reports.{withPlan};
-ghost use Rattle.model.specs.Refusals.{firstMet, reportConditions, badRecord, nextHealth};
-ghost use Rattle.model.specs.Text.{ascii, decimal, choiceText, busText, header as headerText, refusedText, transitionLine};
-ghost use Rattle.text.specs.Numbers.{marked};
+ghost use Rattle.model.specs.Reports.{fileCount, blankRing, told, withPlan};
+ghost use Rattle.model.specs.Refusals.{firstMet, reportConditions, fileRefusal, badRecord};
+ghost use Rattle.model.specs.Text.{ascii, decimal, choiceText, busText, header as headerText, refusedText};
+ghost use Rattle.model.specs.Text.{runRing, runLines, printedRun, runLeft, stateAt, cursorAt, Within, lineRoom};
 ghost use Rattle.model.specs.Laws.Appended.{Appended};
+ghost use Rattle.text.specs.Numbers.{marked};
 ghost use Rattle.text.specs.Spaced.{behindSpaces};
 ghost use Rattle.text.specs.Buses.{busBehindSpace, Named, AllNamed};
 ghost use Rattle.text.specs.Operations.{kindOf, sign as signOf, operationText, phaseOf};
-ghost use Rattle.text.specs.SheetLine.{openingText, closingText, openingSize, closingSize, sheetLine, SheetBytes, room};
-ghost use Rattle.text.specs.Lines.{startLine, startRing, reportLine, nextRing, linesFrom, ringFrom, Stored, Filled};
+ghost use Rattle.text.specs.SheetLine.{openingText, closingText, openingSize, closingSize, sheetLine, SheetBytes};
+ghost use Rattle.text.specs.Lines.{Shown, Passed};
 use model::BusChoice;
 use model::Choice;
+use model::FileAnswer;
 use model::Report;
 use model::ReportAnswer;
 use model::Ring;
+use model::RunCursor;
+use model::RunPiece;
 
 // Room for the longest line.
-const ROOM: usize = 640;
+const ROOM: usize = 553;
 
 // ---- numbers
 
@@ -238,7 +243,7 @@ fn append_phases(sheet: &[u8], out: &mut [u8], at: usize) -> usize
 
 // "a line per report: its number; each bus ..; the first wave; the second." The phases are those of the command sheet's bytes.
 fn sheet_line(i: usize, n: u8, choices: [BusChoice; 20], sheet: &[u8], out: &mut [u8]) -> usize
-    requires { ⌜ (i < 10000) × (0 < n) × (n ≤ 20) × AllNamed n choices × SheetBytes (now sheet) × (room ≤ length (now out)) ⌝ }
+    requires { ⌜ (i < 10000) × (0 < n) × (n ≤ 20) × AllNamed n choices × SheetBytes (now sheet) × (lineRoom ≤ length (now out)) ⌝ }
     ensures bytes { λ r. ⌜ now (out .exit) ≡ written (sheetLine i n choices (now (sheet .entry))) (now (out .entry)) ⌝ }
     ensures end { λ r. ⌜ r ≡ length (sheetLine i n choices (now (sheet .entry))) ⌝ }
 {
@@ -270,8 +275,8 @@ fn append_labelled(text: &[u8], k: usize, out: &mut [u8], at: usize) -> usize
 }
 
 // "a header"
-pub fn header(n: u8, m: usize, out: &mut [u8]) -> usize
-    requires { ⌜ (m < 10000) × (room ≤ length (now out)) ⌝ }
+fn header(n: u8, m: usize, out: &mut [u8]) -> usize
+    requires { ⌜ (m < 10000) × (lineRoom ≤ length (now out)) ⌝ }
     ensures bytes { λ r. ⌜ now (out .exit) ≡ written (headerText n m) (now (out .entry)) ⌝ }
     ensures end { λ r. ⌜ r ≡ length (headerText n m) ⌝ }
 {
@@ -282,8 +287,8 @@ pub fn header(n: u8, m: usize, out: &mut [u8]) -> usize
 }
 
 // "For a refused file it prints only `refused` and the number"
-pub fn refused_text(k: u8, out: &mut [u8]) -> usize
-    requires { ⌜ room ≤ length (now out) ⌝ }
+fn refused_text(k: u8, out: &mut [u8]) -> usize
+    requires { ⌜ lineRoom ≤ length (now out) ⌝ }
     ensures bytes { λ r. ⌜ now (out .exit) ≡ written (refusedText k) (now (out .entry)) ⌝ }
     ensures end { λ r. ⌜ r ≡ length (refusedText k) ⌝ }
 {
@@ -292,20 +297,18 @@ pub fn refused_text(k: u8, out: &mut [u8]) -> usize
     end + 1
 }
 
-// ---- the run: each call takes the ring state and gives the next one with the bytes of its lines, so that passing the state from line to
-// line is proved, and a program only reads and writes.
+// ---- the run
 
-// A line of the run: the ring state after it, and its length in the lent buffer; 0 where nothing was written.
-pub struct Line {
-    pub ring: Ring,
-    pub length: usize,
+// A line in the front of a lent buffer: the ring state behind it, and its length.
+struct Line {
+    ring: Ring,
+    length: usize,
 }
 
 // Line 0, for the start.
-pub fn start_line(n: u8, out: &mut [u8]) -> Line
-    requires { ⌜ (3 ≤ n) × (n ≤ 20) × (room ≤ length (now out)) ⌝ }
-    ensures ring { λ r. ⌜ (r .ring ≡ startRing n) × (badRecord (r .ring) ≡ false) ⌝ }
-    ensures bytes { λ r. ⌜ Stored (startLine n) (now (out .entry)) (now (out .exit)) (r .length) ⌝ }
+fn start_line(n: u8, out: &mut [u8]) -> Line
+    requires { ⌜ (3 ≤ n) × (n ≤ 20) × (lineRoom ≤ length (now out)) ⌝ }
+    ensures { λ r. ⌜ Shown 0 (blankRing n) (now (out .entry)) (now (out .exit)) (r .ring) (r .length) ⌝ }
 {
     let mut sheet = [0u8; 122];
     let answer = transition::start(n, &mut sheet);
@@ -315,11 +318,10 @@ pub fn start_line(n: u8, out: &mut [u8]) -> Line
     Line { ring, length }
 }
 
-// The line of a report that is not refused.
+// Line i, of a report that is not refused.
 fn step_line(ring: Ring, report: Report, i: usize, out: &mut [u8]) -> Line
-    requires { ⌜ (badRecord ring ≡ false) × (firstMet (reportConditions (ring .n) report) ≡ 0) × (i < 10000) × (room ≤ length (now out)) ⌝ }
-    ensures ring { λ r. ⌜ (r .ring ≡ withPlan ring (nextHealth ring report)) × (badRecord (r .ring) ≡ false) ⌝ }
-    ensures bytes { λ r. ⌜ Stored (transitionLine i ring (nextHealth ring report)) (now (out .entry)) (now (out .exit)) (r .length) ⌝ }
+    requires { ⌜ (badRecord ring ≡ false) × (firstMet (reportConditions (ring .n) report) ≡ 0) × (i < 10000) × (lineRoom ≤ length (now out)) ⌝ }
+    ensures { λ r. ⌜ Shown i (told ring report) (now (out .entry)) (now (out .exit)) (r .ring) (r .length) ⌝ }
 {
     let mut sheet = [0u8; 122];
     let n = ring.n;
@@ -330,41 +332,99 @@ fn step_line(ring: Ring, report: Report, i: usize, out: &mut [u8]) -> Line
     Line { ring, length }
 }
 
-// The line of report i, counted from 0; none where no report stands.
-pub fn report_line(ring: Ring, codes: &[u8], words: &[u8], i: usize, out: &mut [u8]) -> Line
-    requires { ⌜ (badRecord ring ≡ false) × (i < 9999) × (room ≤ length (now out)) ⌝ }
-    ensures ring { λ r. ⌜ (r .ring ≡ nextRing ring (now (codes .entry)) (now (words .entry)) i) × (badRecord (r .ring) ≡ false) ⌝ }
-    ensures bytes { λ r. ⌜ Stored (reportLine ring (now (codes .entry)) (now (words .entry)) i) (now (out .entry)) (now (out .exit)) (r .length) ⌝ }
+// The line of report i, counted from 0, of a file that is served: none of its reports is refused or missing.
+fn report_line(ring: Ring, file: &[u8], i: usize, out: &mut [u8]) -> Line
+    requires { ⌜ (fileRefusal (now file) ≡ 0) × (i < fileCount (now file)) × (ring ≡ withPlan (runRing (now file) i)) × (lineRoom ≤ length (now out)) ⌝ }
+    ensures { λ r. ⌜ Shown (i + 1) (runRing (now (file .entry)) (i + 1)) (now (out .entry)) (now (out .exit)) (r .ring) (r .length) ⌝ }
 {
-    match reports::report_at(ring.n, codes, words, i) {
+    let m = (file.len() - 3) / 2;
+    match reports::report_at(ring.n, &file[3..3 + m], &file[3 + m..], i) {
         ReportAnswer::Read(report) => step_line(ring, report, i + 1, out),
         ReportAnswer::Refused(_) => Line { ring, length: 0 },
         ReportAnswer::Missing => Line { ring, length: 0 },
     }
 }
 
-// Some lines of the run: the ring state after them, the report after the last one, and their length in the lent buffer.
-pub struct Lines {
-    pub ring: Ring,
-    pub next: usize,
-    pub length: usize,
+// A line as a piece of the run: the cursor behind it, and whether more follows.
+fn piece_of(line: Line, place: usize, more: bool) -> RunPiece
+    ensures { λ r. ⌜ r ≡ record { cursor = record { place = place; ring = line .ring }; length = line .length; more = more } ⌝ }
+{
+    let ring = line.ring;
+    RunPiece {
+        cursor: RunCursor { place, ring },
+        length: line.length,
+        more,
+    }
 }
 
-// The lines of the reports from report i on, as many as have room; at least one where a report is left.
-pub fn report_lines(first: Ring, codes: &[u8], words: &[u8], i: usize, out: &mut [u8]) -> Lines
-    requires { ⌜ (badRecord first ≡ false) × (length (now codes) ≤ 4096) × (i ≤ length (now codes)) × (room ≤ length (now out)) ⌝ }
-    ensures ring { λ r. ⌜ (r .ring ≡ ringFrom first (now (codes .entry)) (now (words .entry)) i (r .next - i)) × (badRecord (r .ring) ≡ false) ⌝ }
-    ensures bytes { λ r. ⌜ Filled (linesFrom first (now (codes .entry)) (now (words .entry)) i (r .next - i)) (now (out .entry)) (now (out .exit)) (r .length) ⌝ }
-    ensures next { λ r. ⌜ (i ≤ r .next) × (r .next ≤ length (now (codes .entry))) × (i < length (now (codes .entry)) → i < r .next) ⌝ }
+// The first line of a run: the refusal, or the header.
+fn first_line(ring: Ring, file: &[u8], out: &mut [u8]) -> RunPiece
+    requires { ⌜ (ring ≡ stateAt (now file) 0) × (lineRoom ≤ length (now out)) ⌝ }
+    ensures { λ r. ⌜ Passed (now (file .entry)) 0 (now (out .entry)) (now (out .exit)) r ⌝ }
 {
-    let mut ring = first;
-    let mut next = i;
-    let mut length = 0;
-    while next < codes.len() && ROOM <= out.len() - length {
-        let line = report_line(ring, codes, words, next, &mut out[length..]);
-        ring = line.ring;
-        next += 1;
-        length += line.length;
+    match reports::check_file(file) {
+        FileAnswer::Refused(k) => {
+            let length = refused_text(k, out);
+            piece_of(Line { ring, length }, 1, false)
+        }
+        FileAnswer::Served(n, m) => {
+            let length = header(n, m, out);
+            piece_of(Line { ring, length }, 1, true)
+        }
     }
-    Lines { ring, next, length }
+}
+
+// The line at a cursor.
+fn next_line(cursor: RunCursor, file: &[u8], out: &mut [u8]) -> RunPiece
+    requires { ⌜ Within (now file) cursor × (lineRoom ≤ length (now out)) ⌝ }
+    ensures { λ r. ⌜ Passed (now (file .entry)) (cursor .place) (now (out .entry)) (now (out .exit)) r ⌝ }
+{
+    let place = cursor.place;
+    let ring = cursor.ring;
+    if place == 0 {
+        return first_line(ring, file, out);
+    }
+    let lines = (file.len() - 3) / 2 + 2;
+    let next = place + 1;
+    if place == 1 {
+        let line = start_line(file[0], out);
+        return piece_of(line, next, next < lines);
+    }
+    let line = report_line(ring, file, place - 2, out);
+    piece_of(line, next, next < lines)
+}
+
+// The cursor at the beginning of every run.
+pub fn begin() -> RunCursor
+    ensures cursor { λ r. ⌜ r ≡ record { place = 0; ring = blankRing 0 } ⌝ }
+    ensures run { λ r. ⌜ ((f : List ℕ) → Within f r × (runLeft f (r .place) ≡ printedRun f)) ⌝ }
+{
+    let ring = transition::blank(0);
+    RunCursor { place: 0, ring }
+}
+
+// The next lines of a file's run in the front of a buffer: as many as are sure to have room, at least one.
+pub fn fill(first: RunCursor, file: &[u8], out: &mut [u8]) -> RunPiece
+    requires cursor { ⌜ Within (now file) first ⌝ }
+    requires room { ⌜ lineRoom ≤ length (now out) ⌝ }
+    ensures run { λ r. ⌜ runLeft (now (file .entry)) (first .place) ≡ take (r .length) (now (out .exit)) ++ runLeft (now (file .entry)) (r .cursor .place) ⌝ }
+    ensures kept { λ r. ⌜ drop (r .length) (now (out .exit)) ≡ drop (r .length) (now (out .entry)) ⌝ }
+    ensures length { λ r. ⌜ (0 < r .length) × (r .length ≤ length (now (out .exit))) ⌝ }
+    ensures cursor { λ r. ⌜ r .cursor ≡ cursorAt (now (file .entry)) (r .cursor .place) ⌝ }
+    ensures more { λ r. ⌜ r .more ≡ ltb (r .cursor .place) (length (runLines (now (file .entry)))) ⌝ }
+{
+    let mut cursor = first;
+    let mut length = 0;
+    let mut more = true;
+    while more && ROOM <= out.len() - length {
+        let line = next_line(cursor, file, &mut out[length..]);
+        cursor = line.cursor;
+        length += line.length;
+        more = line.more;
+    }
+    RunPiece {
+        cursor,
+        length,
+        more,
+    }
 }

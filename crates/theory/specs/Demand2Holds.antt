@@ -22,11 +22,11 @@ use Rattle.model.specs.Laws.Choosing.{choices-at}
 use Rattle.model.specs.Laws.Parts.{parts-rise}
 use Rattle.theory.specs.Choosing.{on-in}
 use Rattle.theory.specs.Feeds.{commanded-at}
-use Rattle.theory.specs.Demand3.{PlantState, Operation, operation, isServed, nothing, _then_, whole, Performed, performed, AsChosen}
-use Rattle.theory.specs.Operations.{operation-at, opening-at, opening-in, closing-at, closing-in}
-use Rattle.theory.specs.Steady.{both-done}
-use Rattle.theory.specs.Answering.{start-fine}
-use Rattle.theory.specs.Demand3Holds.{controller, demand3}
+use Rattle.theory.specs.Demand3.{PlantState, Operation, operation, isServed, Performed, performed}
+use Rattle.theory.specs.Operations.{any-order, operation-at, opening-at, opening-in, closing-at, closing-in}
+use Rattle.theory.specs.Steady.{phasesOf, Replied, both-done}
+use Rattle.theory.specs.Answering.{start-answered, start-fine}
+use Rattle.theory.specs.Demand3Holds.{controller, start-replied, call-replied, call-answered}
 use Rattle.theory.specs.Demand2.{FirstPermitted, found, not-found, earlier, Needed, ToOpen, ToClose, Serves, Demand2}
 
 -- ---- the first permitted path
@@ -102,35 +102,34 @@ module _ (n : ℕ) (P : PlantState) where
 
 -- ---- what a served call's answer is
 
-serves : {n : ℕ} {P : PlantState} {reply : Reply} → n ≤ largest → AsChosen n P reply → Serves n P reply
-unfolding plan choose
+serves : {n : ℕ} {P : PlantState} {reply : Reply} → n ≤ largest → Replied n P reply → Serves n P reply
+unfolding plan choose phasesOf
 serves {n} {P} small a = record {
   path = plan n (P .health);
-  named = λ b hb. rw (a .choices-are) (choices-at n (P .health) b (record { choice = Dark }) hb small);
+  named = λ b hb. rw (a .chosen) (choices-at n (P .health) b (record { choice = Dark }) hb small);
   first-permitted = λ b hb. rw (earlier-chosen n (P .health) b) (first-permitted n (P .health) (chosen n (P .health) b) (paths n b));
-  phases = a .phases;
-  decodes = a .decodes;
-  opens = λ o m. opens-exactly n P o .0 (rw (a .first-is) at m);
-  all-open = λ o t. rw (a .first-is) (opens-exactly n P o .1 t);
-  closes = λ o m. closes-exactly n P o .0 (rw (a .second-is) at m);
-  all-close = λ o t. rw (a .second-is) (closes-exactly n P o .1 t);
-  opens-rising = rw (a .first-is) (opens-rise n P small);
-  closes-rising = rw (a .second-is) (closes-rise n P small);
+  phases = phasesOf n P;
+  decodes = a .decoded;
+  opens = λ o m. opens-exactly n P o .0 m;
+  all-open = λ o t. opens-exactly n P o .1 t;
+  closes = λ o m. closes-exactly n P o .0 m;
+  all-close = λ o t. closes-exactly n P o .1 t;
+  opens-rising = opens-rise n P small;
+  closes-rising = closes-rise n P small;
   brings-about = about;
 }
   where
-    about : (Q : PlantState) → Performed (a .phases) P Q → (p : Part) → InRing n p → Q .last p ≡ true ↔ Needed n (plan n (P .health)) p
+    about : (Q : PlantState) → Performed (phasesOf n P) P Q → (p : Part) → InRing n p → Q .last p ≡ true ↔ Needed n (plan n (P .health)) p
     about Q (performed {xs = xs} {ys = ys} dx dy) p i =
-        let e = both-done n P (commands n (P .health)) xs ys (rw (a .first-is) at dx) (rw (a .second-is) at dy) p i in
+        let e = both-done n P (commands n (P .health)) xs ys (any-order dx) (any-order dy) p i in
         (λ t. needed-commanded n (P .health) p .1 (sym e ∙ t), λ t. e ∙ needed-commanded n (P .health) p .0 t)
 
 pub demand2 : Demand2 controller
 demand2 = record {
-  start-answered = demand3 .start-answered;
-  start-serves = λ n buffer begun. serves (small n buffer begun) (demand3 .holds n buffer begun nothing .start-chosen);
-  call-answered = λ n buffer begun {before} call h. demand3 .holds n buffer begun (before then call) .answered call whole h;
-  call-serves = λ n buffer begun {before} call h e.
-      serves (small n buffer begun) (demand3 .holds n buffer begun (before then call) .chosen call whole h e);
+  start-answered = start-answered;
+  start-serves = λ n buffer begun. serves (small n buffer begun) (start-replied n buffer begun);
+  call-answered = λ n buffer begun call h. call-answered n buffer begun call h;
+  call-serves = λ n buffer begun call h e. serves (small n buffer begun) (call-replied n buffer begun call h e);
 }
   where
     small : (n : ℕ) (buffer : List ℕ) → isServed (controller .start n buffer) ≡ true → n ≤ largest

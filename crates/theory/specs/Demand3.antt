@@ -168,9 +168,13 @@ pub record World : Type 0 where
   pub ring : Ring
   pub shown : List BusChoice
 
+-- "in any order": xs are the operations of a phase, each as often as there
+abbrev pub AnyOrder : List Operation → List Operation → Type 0
+AnyOrder xs phase = List·Permᴰ xs phase
+
 -- "First-wave strokes fall in any order, then second-wave strokes in any order, all before the next call."
 pub data Performed (ph : Phases) (P : PlantState) : PlantState → Type 0 where
-  performed : {xs ys : List Operation} → List·Permᴰ xs (ph .first) → List·Permᴰ ys (ph .second) → Performed ph P (performAll ys (performAll xs P))
+  performed : {xs ys : List Operation} → AnyOrder xs (ph .first) → AnyOrder ys (ph .second) → Performed ph P (performAll ys (performAll xs P))
 
 -- what stands when the orders of a start and of the calls after it have ended
 pub data Ended (c : Controller) (n : ℕ) (buffer : List ℕ) : Calls → World → Type 0 where
@@ -186,8 +190,9 @@ pub data Ended (c : Controller) (n : ℕ) (buffer : List ℕ) : Calls → World 
 -- "A halt may fall before the first stroke, after the last or between any two.": the plant at a moment of a served call, and
 -- the operations of the first phase that are left
 pub data Moment (ph : Phases) (P : PlantState) : List Operation → PlantState → Type 0 where
-  in-first : (done : List Operation) {rest : List Operation} → List·Permᴰ (done ++ rest) (ph .first) → Moment ph P rest (performAll done P)
-  in-second : (xs done rest : List Operation) → List·Permᴰ xs (ph .first) → List·Permᴰ (done ++ rest) (ph .second) → Moment ph P [] (performAll done (performAll xs P))
+  in-first : (done : List Operation) {rest : List Operation} → AnyOrder (done ++ rest) (ph .first) → Moment ph P rest (performAll done P)
+  in-second : (xs done rest : List Operation) → AnyOrder xs (ph .first) → AnyOrder (done ++ rest) (ph .second)
+      → Moment ph P [] (performAll done (performAll xs P))
 
 -- "word 3"
 abbrev pub isStuckClosed : Word → Bool

@@ -2,7 +2,7 @@
 use mathlib.Core.Path.{_≡_, refl, sym, _∙_, ap}
 use mathlib.Core.Bool.{Bool, true, false, cond}
 use mathlib.Core.Logic.{_≢_, _⊎_, inl, inr}
-use mathlib.Core.List.{List, [], _∷_, append-nil, Permᴰ·refl}
+use mathlib.Core.List.{List, [], _∷_, _++_, map, append-nil, List·Permᴰ}
 use mathlib.Core.Option.{Option, none, some}
 use Prim.Native.Nat.{ℕ, _≤_, _<_}
 use native.Mathlib.Omega.{arith}
@@ -16,12 +16,12 @@ use Rattle.model.specs.declared.Outcome.the-variants as outcome
 use Rattle.model.specs.declared.Feed.the-variants as feed
 use Rattle.model.specs.Lists.{anyOf}
 use Rattle.model.specs.Values.{number, samePart, wordNumber, choiceSource}
-use Rattle.model.specs.Plant.{PartHealth, PartCommands, smallest, largest, generatorBreaker, busBreaker, stuckClosed, healthOfKind, busFeed, InRing}
+use Rattle.model.specs.Plant.{PartHealth, PartCommands, smallest, largest, generatorBreaker, busBreaker, stuckClosed, healthOfKind, busFeed, InRing, Reaches}
 use Rattle.model.specs.Priority.{Path}
 use Rattle.model.specs.Choosing.{commands, choices, choiceOf, plan}
 use Rattle.model.specs.Sheet.{opening, closing}
 use Rattle.model.specs.Reports.{reported, healthOf, told}
-use Rattle.model.specs.Answers.{refusedAnswer, refusedReply, startReply, stepReply}
+use Rattle.model.specs.Answers.{Reply, refusedAnswer, refusedReply, startReply, stepReply}
 use Rattle.model.specs.Laws.Tests.{contra, dec, or-none}
 use Rattle.model.specs.Laws.Choosing.{choice-source, choice-dark, choices-at}
 use Rattle.model.specs.Laws.Parts.{same-eq, health-places}
@@ -29,12 +29,12 @@ use Rattle.theory.specs.Completeness.{de-energized-exactly}
 use Rattle.theory.specs.Feeds.{Single, no-clash, energized-fed, de-energized-fed, reaches-usable, usable-reaches}
 use Rattle.theory.specs.Interruption.{Fewer, NoneStuckClosed, opening-single, closing-single}
 use Rattle.theory.specs.Locality.{feed-ext}
-use Rattle.theory.specs.Demand3.{Controller, PlantState, freshPlant, effect, afterWord, afterWords, Operation, performAll, Phases, decode, Call, step}
+use Rattle.theory.specs.Demand3.{Controller, PlantState, freshPlant, effect, afterWord, afterWords, Operation, operation, performAll, Phases, decode, Call, step}
 use Rattle.theory.specs.Demand3.{Calls, nothing, _then_, replyTo, words, isServed, World, Performed, performed, Ended, started, served}
 use Rattle.theory.specs.Demand3.{refused, Moment, in-first, in-second, isStuckClosed, isEmpty, excepted, Interrupted, in-start, between, in-call, shownAt}
 use Rattle.theory.specs.Demand3.{BusShown, RecordGiven, AsChosen, wordRefusal, lent, Meets, Meets, Answered, Holds, Demand3}
-use Rattle.theory.specs.Operations.{perform-health}
-use Rattle.theory.specs.Steady.{phasesOf, Steady, fit-of-kind, as-chosen, served-decodes, transition-steady, some-of-prefix}
+use Rattle.theory.specs.Operations.{perform-health, any-order, sheet-order}
+use Rattle.theory.specs.Steady.{phasesOf, Replied, Steady, fit-of-kind, served-replied, served-decodes, transition-steady, some-of-prefix}
 use Rattle.theory.specs.Steady.{first-fewer, first-done, second-fewer}
 use Rattle.theory.specs.Answering.{start-served, start-fine, start-answered, start-ready, blank-fit, step-ready, step-answered, served-fine}
 use Rattle.theory.specs.Answering.{step-served, step-refused}
@@ -129,14 +129,17 @@ module _ {n : ℕ} {W : World} (small : n ≤ largest) (s : Steady n W) (b : ℕ
 
   bus-shown : BusShown n W b
   bus-shown = record {
-    dark-unreached = λ e g c.
-        let t = reaches-usable hb c in
-        de-energized-exactly n K b hb .0 (choice-dark n (plan n K b) (sym shown-is ∙ e)) g (t .0) (c .inside) (t .1);
+    dark-unreached = λ e g c. unreached e g c;
     unreached-dark = λ f. shown-is ∙ none-dark (de-energized-exactly n K b hb .1 (λ g r hg u. f g (usable-reaches r hg hb u)));
     energized = λ ne. fed-is ∙ energized (plan n K b) refl ne;
     de-energized = λ e. fed-is ∙ de-energized-fed n K b hb (choice-dark n (plan n K b) (sym shown-is ∙ e));
   }
     where
+      unreached : shownAt W b ≡ choice.Dark → (g : ℕ) → Reaches n K b g → ⊥
+      unreached e g c =
+          let t = reaches-usable hb c in
+          de-energized-exactly n K b hb .0 (choice-dark n (plan n K b) (sym shown-is ∙ e)) g (t .0) (c .inside) (t .1)
+
       energized : (o : Option Path) → plan n K b ≡ o → shownAt W b ≢ choice.Dark → busFeed n K (commands n K) b ≡ feed.Fed (choiceSource (shownAt W b))
       energized none e ne = absurd (ne (shown-is ∙ none-dark e))
       energized (some w) e ne = rw (shown-is, e, choice-source n w) (energized-fed n K b w hb e)
@@ -149,6 +152,17 @@ as-given s = record {
   standing = s .standing;
   health-above = λ p i l. s .above p i l .0;
   commands-above = λ p i l. s .above p i l .1;
+}
+
+-- a reply that is document 01's has its choices and its phases
+as-chosen : {n : ℕ} {P : PlantState} {reply : Reply} → Replied n P reply → AsChosen n P reply
+unfolding phasesOf
+as-chosen {n} {P} a = record {
+  choices-are = a .chosen;
+  phases = phasesOf n P;
+  decodes = a .decoded;
+  first-is = refl;
+  second-is = refl;
 }
 
 -- ---- interruptions
@@ -208,21 +222,32 @@ module _ (n : ℕ) (P₀ : PlantState) (rs : List Report) (stands : Fewer n (P�
   abbrev N : PartCommands
   N = commands n (P .health)
 
-  moment-single : {rest : List Operation} {Q : PlantState} → Moment (phasesOf n P) P rest Q → Unless rs rest → (b : ℕ) → b < n → Single n (Q .health) (Q .last) b
-  unfolding phasesOf
-  moment-single (in-first done {rest = rest} d) (no-word-3 e) b hb =
+  -- some operations of the first phase are performed
+  in-first-single : (done rest : List Operation) → List·Permᴰ (done ++ rest) (map (operation false) (opening n (P .last) N)) → Unless rs rest
+      → (b : ℕ) → b < n → Single n (performAll done P .health) (performAll done P .last) b
+  in-first-single done rest d (no-word-3 e) b hb =
       rw (perform-health done P)
       (opening-single n (P₀ .health) (P .health) (performAll done P .last) none-closed
       (λ p i c. stands p i (rw words-last at (first-fewer n P N done (some-of-prefix false (opening n (P .last) N) done rest d) p i c))) b hb)
     where
       none-closed : NoneStuckClosed n (P₀ .health) (P .health)
       none-closed = record { breaker = λ g hg c. words-none rs P₀ (generatorBreaker g) e c; line = λ i hi c. words-none rs P₀ (busBreaker i) e c }
-  moment-single (in-first done {rest = rest} d) (all-opened e) b hb =
+  in-first-single done rest d (all-opened e) b hb =
       rw (perform-health done P) (closing-single n (P .health) (performAll done P .last) (first-done n P N done (rw (empty-is rest e, append-nil) at d)) b hb)
-  moment-single (in-second xs done rest dx dy) u b hb =
+
+  -- all of the first, and some of the second
+  in-second-single : (xs done rest : List Operation) → List·Permᴰ xs (map (operation false) (opening n (P .last) N))
+      → List·Permᴰ (done ++ rest) (map (operation true) (closing n (P .last) N))
+      → (b : ℕ) → b < n → Single n (performAll done (performAll xs P) .health) (performAll done (performAll xs P) .last) b
+  in-second-single xs done rest dx dy b hb =
       rw (perform-health done (performAll xs P) ∙ perform-health xs P)
       (closing-single n (P .health) (performAll done (performAll xs P) .last)
       (second-fewer n P N (performAll xs P) done (first-done n P N xs dx) (some-of-prefix true (closing n (P .last) N) done rest dy)) b hb)
+
+  moment-single : {rest : List Operation} {Q : PlantState} → Moment (phasesOf n P) P rest Q → Unless rs rest → (b : ℕ) → b < n → Single n (Q .health) (Q .last) b
+  unfolding phasesOf
+  moment-single (in-first done {rest = rest} d) u b hb = in-first-single done rest (any-order d) u b hb
+  moment-single (in-second xs done rest dx dy) u b hb = in-second-single xs done rest (any-order dx) (any-order dy) b hb
 
 -- ---- demand 3
 
@@ -233,19 +258,19 @@ module _ (n : ℕ) (buffer : List ℕ) (begun : isServed (startReply n buffer) �
   small : n ≤ largest
   small = start-fine n buffer begun .small
 
-  start-chosen : AsChosen n freshPlant (startReply n buffer)
-  start-chosen = rw (start-served n buffer begun) (as-chosen small (start-ready n small) buffer)
+  pub start-replied : Replied n freshPlant (startReply n buffer)
+  start-replied = rw (start-served n buffer begun) (served-replied small (start-ready n small) buffer)
 
-  step-chosen : {W : World} → Steady n W → (r : Report) (lending : List ℕ) → isServed (stepReply (W .ring) r lending) ≡ true
-      → AsChosen n (afterWord r (W .plant)) (stepReply (W .ring) r lending)
-  step-chosen {W} s r lending e = rw (step-served (W .ring) r lending e) (as-chosen small (step-ready small s r) lending)
+  step-replied : {W : World} → Steady n W → (r : Report) (lending : List ℕ) → isServed (stepReply (W .ring) r lending) ≡ true
+      → Replied n (afterWord r (W .plant)) (stepReply (W .ring) r lending)
+  step-replied {W} s r lending e = rw (step-served (W .ring) r lending e) (served-replied small (step-ready small s r) lending)
 
   steady : {calls : Calls} {W : World} → Ended controller n buffer calls W → Steady n W
   steady h = ended-steady n buffer big small h
 
   ends : (calls : Calls) → (W : World) × Ended controller n buffer calls W
   unfolding afterWords
-  ends nothing = (_, started begun (start-chosen .decodes) (performed (Permᴰ·refl _) (Permᴰ·refl _)))
+  ends nothing = (_, started begun (start-replied .decoded) (performed (sheet-order _) (sheet-order _)))
   ends (calls then step r lending) = go (ends calls)
     where
       go : (W : World) × Ended controller n buffer calls W → (W : World) × Ended controller n buffer (calls then step r lending) W
@@ -253,18 +278,34 @@ module _ (n : ℕ) (buffer : List ℕ) (begun : isServed (startReply n buffer) �
         where
           by : (isServed (stepReply (t .0 .ring) r lending) ≡ true) ⊎ (isServed (stepReply (t .0 .ring) r lending) ≡ false)
               → (W : World) × Ended controller n buffer (calls then step r lending) W
-          by (inl e) = (_, served (step r lending) (t .1) e (step-chosen (steady (t .1)) r lending e .decodes) (performed (Permᴰ·refl _) (Permᴰ·refl _)))
+          by (inl e) = (_, served (step r lending) (t .1) e (step-replied (steady (t .1)) r lending e .decoded) (performed (sheet-order _) (sheet-order _)))
           by (inr e) = (_, refused (step r lending) (t .1) e)
+
+  -- what stands between calls is planned
+  as-planned : {calls : Calls} {W : World} → Ended controller n buffer calls W → Fewer n (W .plant .last) (commands n (W .plant .health))
+  as-planned h p i c = sym (steady h .planned p i) ∙ c
+
+  -- a moment of a call that was told the words rs, in a plant P₀ that was as planned
+  call-free : (P₀ : PlantState) {P : PlantState} (rs : List Report) (reply : Reply) {ph : Phases} {rest : List Operation} → Fewer n (P₀ .last) (commands n (P₀ .health))
+      → Replied n (afterWords rs P₀) reply → decode n (reply .buffer) ≡ some ph → Moment ph (afterWords rs P₀) rest P → excepted rs rest ≡ false
+      → (b : ℕ) → b < n → Single n (P .health) (P .last) b
+  call-free P₀ rs reply {rest = rest} stands replied d m u b hb =
+      moment-single n P₀ rs stands (rw (same-phases d (replied .decoded)) at m) (unless rs rest u) b hb
+
+  pub call-replied : {before : Calls} {W : World} (call : Call) → Ended controller n buffer before W → isServed (replyTo controller (W .ring) call) ≡ true
+      → Replied n (afterWords (words call) (W .plant)) (replyTo controller (W .ring) call)
+  unfolding afterWords
+  call-replied (step r lending) h e = step-replied (steady h) r lending e
+
+  pub call-answered : {before : Calls} {W : World} (call : Call) → Ended controller n buffer before W
+      → Answered (Meets n (W .plant) call) (W .ring) (lent call) (replyTo controller (W .ring) call)
+  call-answered (step r lending) h = step-answered big small (steady h) r lending
 
   clash-free : {calls : Calls} {P : PlantState} {t : Bool} → Interrupted controller n buffer calls P t → t ≡ false → (b : ℕ) → b < n → Single n (P .health) (P .last) b
   unfolding afterWords
-  clash-free (in-start {ph = ph} {rest = rest} e d m) u b hb =
-      moment-single n freshPlant [] (λ p i c. contra c refl)
-      (rw (same-phases (rw (start-served n buffer e) at d) (served-decodes small (start-ready n small) buffer)) at m) (unless [] rest u) b hb
-  clash-free (between {W = W} i h) u b hb = closing-single n (W .plant .health) (W .plant .last) (λ p i c. sym (steady h .planned p i) ∙ c) b hb
-  clash-free (in-call {W = W} (step r lending) {ph = ph} {rest = rest} i h e d m) u b hb =
-      moment-single n (W .plant) (r ∷ []) (λ p i c. sym (steady h .planned p i) ∙ c)
-      (rw (same-phases (rw (step-served (W .ring) r lending e) at d) (served-decodes small (step-ready small (steady h) r) lending)) at m) (unless (r ∷ []) rest u) b hb
+  clash-free (in-start e d m) u = call-free freshPlant [] (startReply n buffer) (λ p i c. contra c refl) start-replied d m u
+  clash-free (between {W = W} i h) u = closing-single n (W .plant .health) (W .plant .last) (as-planned h)
+  clash-free (in-call {W = W} call i h e d m) u = call-free (W .plant) (words call) (replyTo controller (W .ring) call) (as-planned h) (call-replied call h e) d m u
 
   holds : (calls : Calls) → Holds controller n buffer calls
   unfolding afterWords
@@ -272,19 +313,11 @@ module _ (n : ℕ) (buffer : List ℕ) (begun : isServed (startReply n buffer) �
     ends = ends calls;
     shown = λ i h b hb. bus-shown small (steady h) b hb;
     given = λ i h. as-given (steady h);
-    start-chosen = start-chosen;
-    chosen = λ call i h e. pick call h e;
+    start-chosen = as-chosen start-replied;
+    chosen = λ call i h e. as-chosen (call-replied call h e);
     no-clash = λ {P} m b g h hb. no-clash n (P .health) (P .last) b (clash-free m refl b hb) g h;
-    answered = λ call i h. claimed call h;
+    answered = λ call i h. call-answered call h;
   }
-    where
-      pick : {before : Calls} {W : World} (call : Call) → Ended controller n buffer before W → isServed (replyTo controller (W .ring) call) ≡ true
-          → AsChosen n (afterWords (words call) (W .plant)) (replyTo controller (W .ring) call)
-      pick (step r lending) h e = step-chosen (steady h) r lending e
-
-      claimed : {before : Calls} {W : World} (call : Call) → Ended controller n buffer before W
-          → Answered (Meets n (W .plant) call) (W .ring) (lent call) (replyTo controller (W .ring) call)
-      claimed (step r lending) h = step-answered big small (steady h) r lending
 
 pub demand3 : Demand3 controller
 demand3 = record { start-answered = start-answered; holds = holds }

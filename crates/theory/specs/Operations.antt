@@ -3,7 +3,7 @@ use mathlib.Core.Path.{_≡_, refl, sym, _∙_, ap, ap₂}
 use mathlib.Core.Bool.{Bool, true, false, not, _&&_}
 use mathlib.Core.Logic.{_⊎_, inl, inr}
 use mathlib.Core.List.{List, [], _∷_, _++_, map, append-assoc, List·Memᴰ·head, List·Memᴰ·tail, List·Memᴰ·not-nil, List·Memᴰ·cases-cons, List·Permᴰ}
-use mathlib.Core.List.{List·Permᴰ·nil, List·Permᴰ·cons, List·Permᴰ·swap, List·Permᴰ·trans}
+use mathlib.Core.List.{List·Permᴰ·nil, List·Permᴰ·cons, List·Permᴰ·swap, List·Permᴰ·trans, Permᴰ·refl}
 use mathlib.Core.Option.{some}
 use Prim.Native.Nat.{ℕ, suc, _+_, _*_, _≤_}
 use native.Mathlib.Omega.{arith}
@@ -19,7 +19,7 @@ use Rattle.model.specs.Lists.{_∈_}
 use Rattle.model.specs.Laws.Lists.{map-at, keep-at, keep-in}
 use Rattle.model.specs.Laws.Parts.{parts-in, parts-at, same-eq, same-refl}
 use Rattle.model.specs.Laws.Reports.{named-code}
-use Rattle.theory.specs.Demand3.{PlantState, Operation, operation, perform, performAll, commandNamed, withOperation, operations, phasesAt, decode}
+use Rattle.theory.specs.Demand3.{PlantState, Operation, operation, perform, performAll, commandNamed, withOperation, operations, phasesAt, decode, AnyOrder}
 
 -- ---- performing
 
@@ -57,6 +57,12 @@ struck c (o ∷ os) P p all = go (struck c os (perform o P) p (λ x m. all x (Li
             pick (inr z) = m z
 
 -- ---- any order
+
+pub any-order : {xs phase : List Operation} → AnyOrder xs phase → List·Permᴰ xs phase
+any-order d = d
+
+pub sheet-order : (phase : List Operation) → AnyOrder phase phase
+sheet-order phase = Permᴰ·refl phase
 
 pub perm-in : {A : Type 0} {x : A} {xs ys : List A} → List·Permᴰ xs ys → x ∈ xs → x ∈ ys
 perm-in List·Permᴰ·nil m = m

@@ -2,7 +2,7 @@
 use mathlib.Core.Path.{_≡_, refl, sym, _∙_, ap}
 use mathlib.Core.Bool.{Bool, true, false, not, _&&_, _||_, cond, Bool·beq}
 use mathlib.Core.Logic.{_⊎_, inl, inr, _↔_}
-use mathlib.Core.List.{List, [], _∷_, List·Memᴰ·head, List·Memᴰ·tail, Permᴰ·refl}
+use mathlib.Core.List.{List, [], _∷_, List·Memᴰ·head, List·Memᴰ·tail}
 use Prim.Native.Nat.{ℕ, _≤_, _<_}
 use native.Mathlib.Omega.{arith}
 use lib.Dec.{ltb}
@@ -30,6 +30,7 @@ use Rattle.model.specs.Laws.Sheet.{sheet-fits}
 use Rattle.model.specs.Laws.Refusals.{good-size}
 use Rattle.theory.specs.Locality.{Agree, commands-ext, commands-held}
 use Rattle.theory.specs.Demand3.{freshPlant, afterWord, performed, World, isServed, wordRefusal}
+use Rattle.theory.specs.Operations.{sheet-order}
 use Rattle.theory.specs.Steady.{not-commanded, Steady, served-decodes, steady-good}
 use Rattle.theory.specs.Answering.{start-ready, start-served, fine-begun, step-ready, step-served, step-refused, StepFine, fine-served}
 use Rattle.theory.specs.Demand3Holds.{start-steady, step-steady}
@@ -53,14 +54,14 @@ step-stands {n} {W} big small s r buffer = go (dec (isServed (stepReply (W .ring
     go : (isServed (stepReply (W .ring) r buffer) ≡ true) ⊎ (isServed (stepReply (W .ring) r buffer) ≡ false) → Stands (stepReply (W .ring) r buffer .answer .ring)
     go (inl e) =
         let d = served-decodes small (step-ready small s r) buffer in
-        (n, _, big, small, step-steady n buffer big small s r buffer e (rw (← step-served (W .ring) r buffer e) at d) (performed (Permᴰ·refl _) (Permᴰ·refl _)), refl)
+        (n, _, big, small, step-steady n buffer big small s r buffer e (rw (← step-served (W .ring) r buffer e) at d) (performed (sheet-order _) (sheet-order _)), refl)
     go (inr e) = (n, W, big, small, s, rw (step-refused (W .ring) r buffer e))
 
 made-stands : {ring : Ring} → Made ring → Stands ring
 unfolding Stands
 made-stands (started n buffer big small e) =
     let d = served-decodes small (start-ready n small) buffer in
-    (n, _, big, small, start-steady n buffer big small e (rw (← start-served n buffer e) at d) (performed (Permᴰ·refl _) (Permᴰ·refl _)), refl)
+    (n, _, big, small, start-steady n buffer big small e (rw (← start-served n buffer e) at d) (performed (sheet-order _) (sheet-order _)), refl)
 made-stands (stepped {ring = ring} r buffer m) = go (made-stands m)
   where
     go : Stands ring → Stands (stepReply ring r buffer .answer .ring)

@@ -2,7 +2,7 @@
 use mathlib.Core.Path.{_≡_, refl}
 use mathlib.Core.Bool.{Bool, true, false, cond}
 use mathlib.Core.Logic.{_⊎_, inl, inr}
-use mathlib.Core.List.{List, _++_, reverse, List·Permᴰ, List·Permᴰ·trans, Permᴰ·refl, Permᴰ·reverseAux, Permᴰ·append-nil}
+use mathlib.Core.List.{List, _++_, reverse, List·Permᴰ·trans, Permᴰ·refl, Permᴰ·reverseAux, Permᴰ·append-nil}
 use mathlib.Core.Option.{Option, none, some}
 use Prim.Native.Nat.{ℕ}
 use lib.ListN.{take, drop, take-append-drop}
@@ -10,19 +10,19 @@ use Rattle.model.specs.Answers.{Reply}
 use Rattle.model.specs.Laws.Tests.{dec}
 use Rattle.model.specs.Laws.Lists.{none-some}
 use Rattle.theory.specs.Demand3.{Controller, PlantState, freshPlant, afterWords, Operation, performAll, Phases, decode, Call, Calls, nothing, _then_}
-use Rattle.theory.specs.Demand3.{replyTo, words, isServed, World, Performed, performed, Ended, started, served, refused}
+use Rattle.theory.specs.Demand3.{replyTo, words, isServed, World, AnyOrder, Performed, performed, Ended, started, served, refused}
 
 -- the operations of a phase in the order performed: the sheet's, or the other way round
 unfoldable pub ordered : Bool → List Operation → List Operation
 ordered backward os = cond backward (reverse os) os
 
-pub ordered-perm : (backward : Bool) (os : List Operation) → List·Permᴰ (ordered backward os) os
+pub ordered-perm : (backward : Bool) (os : List Operation) → AnyOrder (ordered backward os) os
 unfolding ordered
 ordered-perm true os = List·Permᴰ·trans (Permᴰ·reverseAux os _) (Permᴰ·append-nil os)
 ordered-perm false os = Permᴰ·refl os
 
 -- .. and cut at an operation
-pub cut-perm : (backward : Bool) (k : ℕ) (os : List Operation) → List·Permᴰ (take k (ordered backward os) ++ drop k (ordered backward os)) os
+pub cut-perm : (backward : Bool) (k : ℕ) (os : List Operation) → AnyOrder (take k (ordered backward os) ++ drop k (ordered backward os)) os
 cut-perm backward k os = rw (take-append-drop k (ordered backward os)) (ordered-perm backward os)
 
 -- both phases performed

@@ -19,15 +19,15 @@ use Rattle.model.specs.Choosing.{commands, choices}
 use Rattle.model.specs.Sheet.{opening, closing, sheet}
 use Rattle.model.specs.Reports.{healthOf, commandsOf, planned, withPlan}
 use Rattle.model.specs.Refusals.{sizeOutside, healthOutside, activeAbove, unplanned, badRecord, nextSheet}
-use Rattle.model.specs.Answers.{servedAnswer, servedReply}
+use Rattle.model.specs.Answers.{Reply, servedAnswer, servedReply}
 use Rattle.model.specs.Laws.Tests.{contra, dec, dec-lt}
 use Rattle.model.specs.Laws.Lists.{any-false, map-in}
 use Rattle.model.specs.Laws.Parts.{parts-at, command-places}
 use Rattle.theory.specs.Locality.{Agree, choices-ext, commands-ext, commanded-in-ring, sheet-ext}
 use Rattle.theory.specs.Interruption.{Fewer}
-use Rattle.theory.specs.Demand3.{PlantState, Operation, operation, performAll, Phases, decode, Performed, performed, World, AsChosen}
+use Rattle.theory.specs.Demand3.{PlantState, Operation, operation, performAll, Phases, decode, Performed, performed, World}
 use Rattle.theory.specs.Operations.{perform-health, Struck, hit, miss, struck, perm-in, operation-at, opening-at, opening-in, closing-at, closing-in}
-use Rattle.theory.specs.Operations.{decode-sheet}
+use Rattle.theory.specs.Operations.{any-order, decode-sheet}
 
 -- ---- operations of the two phases, in any order
 
@@ -117,6 +117,11 @@ phasesOf n P = record {
   second = map (operation true) (closing n (P .last) (commands n (P .health)));
 }
 
+-- a reply that is document 01's for a plant: what both demands say of a served call comes from it
+pub record Replied (n : ℕ) (P : PlantState) (reply : Reply) : Type 0 where
+  pub chosen : reply .answer .choices ≡ choices n (P .health)
+  pub decoded : decode n (reply .buffer) ≡ some (phasesOf n P)
+
 module _ {n : ℕ} {ring : Ring} {P : PlantState} (small : n ≤ largest) (ready : Ready n ring P) where
   abbrev T : PartHealth
   T = healthOf (ring .health)
@@ -138,10 +143,9 @@ module _ {n : ℕ} {ring : Ring} {P : PlantState} (small : n ≤ largest) (ready
   unfolding servedReply servedAnswer
   served-choices buffer = rw (ready .size) (choices-ext n T (P .health) (ready .health))
 
-  -- the answer's choices and phases are document 01's for the plant
-  pub as-chosen : (buffer : List ℕ) → AsChosen n P (servedReply ring buffer)
-  unfolding phasesOf
-  as-chosen buffer = record { choices-are = served-choices buffer; phases = phasesOf n P; decodes = served-decodes buffer; first-is = refl; second-is = refl }
+  -- the reply's choices and phases are document 01's for the plant
+  pub served-replied : (buffer : List ℕ) → Replied n P (servedReply ring buffer)
+  served-replied buffer = record { chosen = served-choices buffer; decoded = served-decodes buffer }
 
 -- ---- what stands between calls
 
@@ -169,7 +173,7 @@ pub transition-steady : {n : ℕ} {ring : Ring} {P Q : PlantState} → n ≤ lar
     → (buffer : List ℕ) → Performed (phasesOf n P) P Q
     → Steady n (record { plant = Q; ring = servedReply ring buffer .answer .ring; shown = servedReply ring buffer .answer .choices })
 unfolding servedReply servedAnswer withPlan planned phasesOf
-transition-steady {n} {ring} {P} small ready kinds above buffer (performed {xs = xs} {ys = ys} dx dy) = record {
+transition-steady {n} {ring} {P} small ready kinds above buffer (performed {xs = xs} {ys = ys} ax ay) = record {
   size = ready .size;
   health = λ p r. ready .health p r ∙ kept p;
   standing = λ p r. command-places (planned ring) p (wide p r) ∙ new p ∙ sym (both-done n P (commands n (P .health)) xs ys dx dy p r);
@@ -179,6 +183,12 @@ transition-steady {n} {ring} {P} small ready kinds above buffer (performed {xs =
   shown = served-choices small ready buffer ∙ ap (choices n) (sym same-health);
 }
   where
+    dx : List·Permᴰ xs (map (operation false) (opening n (P .last) (commands n (P .health))))
+    dx = any-order ax
+
+    dy : List·Permᴰ ys (map (operation true) (closing n (P .last) (commands n (P .health))))
+    dy = any-order ay
+
     same-health : performAll ys (performAll xs P) .health ≡ P .health
     same-health = perform-health ys (performAll xs P) ∙ perform-health xs P
 

@@ -1,5 +1,5 @@
 -- No wrong controller meets the demands: of each, the claim that it fails and the calls that show it. Every claim of demands 2 and 3
--- has its wrong controller, and the right one fails none of these tests.
+-- has its wrong controller; the right one fails no claim, whatever the calls.
 use mathlib.Core.Path.{_≡_, refl}
 use mathlib.Core.Bool.{Bool, true, false, not, _&&_, cond}
 use mathlib.Core.List.{List, [], _∷_, _++_, map, flatMap, Permᴰ·refl}
@@ -8,7 +8,6 @@ use Prim.Native.Nat.{ℕ}
 use native.Mathlib.Omega.{arith}
 use lib.Dec.{eqb}
 use lib.ListN.{length, take, drop, set, replicate}
-use borrow.Author.Tests.{not-true}
 use Rattle.model.specs.declared.Part.{Part}
 use Rattle.model.specs.declared.Part.the-variants.{Generator, GeneratorBreaker, BusBreaker}
 use Rattle.model.specs.declared.Word.{Word}
@@ -22,12 +21,12 @@ use Rattle.model.specs.Choosing.{choices}
 use Rattle.model.specs.Sheet.{written}
 use Rattle.model.specs.Reports.{allFit, blankRing, told}
 use Rattle.model.specs.Answers.{Reply, refusedReply, servedReply, startReply, allDark}
-use Rattle.model.specs.Laws.Tests.{and-left}
 use Rattle.model.specs.Laws.Lists.{all-at}
 use Rattle.model.specs.Laws.Refusals.{served-refused}
 use Rattle.theory.specs.Demand3.{Controller, PlantState, Operation, operation, Phases, decode, Call, step, Calls, nothing, _then_, whole, in-first, in-call, excepted, Interrupted, StartMeets, too-small, too-large, too-short, Demand3}
-use Rattle.theory.specs.Demand3Holds.{controller}
+use Rattle.theory.specs.Demand3Holds.{controller, demand3}
 use Rattle.theory.specs.Demand2.{Demand2}
+use Rattle.theory.specs.Demand2Holds.{demand2}
 use Rattle.theory.specs.Claims as claim
 use Rattle.theory.specs.Claims.{Instance, Claim3, Claim2, fails3, fails2, extraOpen, extraClose, hasOperation, otherOutcome, rises}
 use Rattle.theory.specs.Runs.{run-ended}
@@ -311,9 +310,14 @@ wrongMoments =
 unfoldable pub wrongs3 : List Row3
 wrongs3 = wrongDesigns ++ (wrongStarts ++ (wrongRefusals ++ (wrongSteps ++ wrongMoments)))
 
--- the wrong controller fails the claim, and the right one does not
+-- the wrong controller fails the claim
 unfoldable pub refuted3 : Row3 → Bool
-refuted3 k = fails3 (k .wrong) (k .shows) (k .claim) && not (fails3 (designController right) (k .shows) (k .claim))
+refuted3 k = fails3 (k .wrong) (k .shows) (k .claim)
+
+-- a test that cannot pass
+none-true : (b : Bool) → (b ≡ true → ⊥) → b ≡ false
+none-true true f = absurd (f refl)
+none-true false f = refl
 
 -- every computed fact of demand 3, by one evaluation
 computed3 : allOf refuted3 wrongs3 ≡ true
@@ -338,7 +342,11 @@ computed3 = refl
 -- none of the wrong controllers meets demand 3
 pub none-meets-3 : (k : Row3) → k ∈ wrongs3 → Demand3 (k .wrong) → ⊥
 unfolding refuted3
-none-meets-3 k m d = refutes3 (k .wrong) (k .shows) d (k .claim) (and-left (fails3 (k .wrong) (k .shows) (k .claim)) _ (all-at refuted3 wrongs3 computed3 k m))
+none-meets-3 k m d = refutes3 (k .wrong) (k .shows) d (k .claim) (all-at refuted3 wrongs3 computed3 k m)
+
+-- the right design fails no claim anywhere
+pub right-fails-none-3 : (i : Instance) (k : Claim3) → fails3 (designController right) i k ≡ false
+right-fails-none-3 i k = rw right-is (none-true (fails3 controller i k) (refutes3 controller i demand3 k))
 
 -- nor one that is wrong at the largest ring alone, or above it
 none-meets-20 : Demand3 refusesTwenty → ⊥
@@ -389,7 +397,7 @@ wrongs2 =
     ∷ []
 
 unfoldable pub refuted2 : Row2 → Bool
-refuted2 k = fails2 (k .wrong) (k .shows) (k .claim) && not (fails2 (designController right) (k .shows) (k .claim))
+refuted2 k = fails2 (k .wrong) (k .shows) (k .claim)
 
 computed2 : allOf refuted2 wrongs2 ≡ true
 unfolding below keep first anyOf allOf partCode samePart parts healthOfKind next up arc connected feeds feeders feedBy busFeed others
@@ -413,7 +421,11 @@ computed2 = refl
 -- none of the wrong controllers meets demand 2
 pub none-meets-2 : (k : Row2) → k ∈ wrongs2 → Demand2 (k .wrong) → ⊥
 unfolding refuted2
-none-meets-2 k m d = refutes2 (k .wrong) (k .shows) d (k .claim) (and-left (fails2 (k .wrong) (k .shows) (k .claim)) _ (all-at refuted2 wrongs2 computed2 k m))
+none-meets-2 k m d = refutes2 (k .wrong) (k .shows) d (k .claim) (all-at refuted2 wrongs2 computed2 k m)
+
+-- the right design fails no claim anywhere
+pub right-fails-none-2 : (i : Instance) (k : Claim2) → fails2 (designController right) i k ≡ false
+right-fails-none-2 i k = rw right-is (none-true (fails2 controller i k) (refutes2 controller i demand2 k))
 
 -- ---- facts of the statement's own tables
 
@@ -437,8 +449,9 @@ decodes : (decode 3 (1 ∷ 1 ∷ 65 ∷ 64 ∷ 0 ∷ 1 ∷ 9 ∷ []) ≡ some (r
     × (decode 3 (0 ∷ 1 ∷ 67 ∷ 1 ∷ []) ≡ none)
     × (decode 3 (0 ∷ 1 ∷ 64 ∷ []) ≡ none)
     × (decode 3 [] ≡ none)
+    × (operations 3 (64 ∷ []) [] ≡ none)
 unfolding decode phasesAt operations withOperation commandNamed partNamed partCode parts below first
-decodes = (refl, refl, refl, refl, refl)
+decodes = (refl, refl, refl, refl, refl, refl)
 
 -- the order of the operations is what is wrong with the fourth and fifth controller of `wrongMoments`: in the sheet's own order they
 -- clash nowhere

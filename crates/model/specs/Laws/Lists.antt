@@ -57,6 +57,16 @@ below-at (suc n) i d h = go (below-at n i d) (dec-eq i n)
 
 -- ---- map and flatMap
 
+-- the default of a mapped list is not read inside it
+map-within : {A B : Type 0} (f : A → B) (l : List A) (i : ℕ) (c : A) (d : B) → i < length l → getD (map f l) i d ≡ f (getD l i c)
+map-within f [] i c d h = absurd (omega arith)
+map-within f (x ∷ xs) zero c d h = refl
+map-within f (x ∷ xs) (suc i) c d h = map-within f xs i c d (omega arith)
+
+-- what f makes of the numbers below n has f i at each i
+pub map-below-at : {A : Type 0} (f : ℕ → A) (n i : ℕ) (d : A) → i < n → getD (map f (below n)) i d ≡ f i
+map-below-at f n i d h = map-within f (below n) i 0 d (omega (arith, below-length n)) ∙ ap f (below-at n i 0 h)
+
 pub map-in : {A B : Type 0} (f : A → B) {x : A} {xs : List A} → x ∈ xs → f x ∈ map f xs
 map-in f (List·Memᴰ·head p) = List·Memᴰ·head (ap f p)
 map-in f (List·Memᴰ·tail m) = List·Memᴰ·tail (map-in f m)

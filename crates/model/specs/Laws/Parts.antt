@@ -17,7 +17,7 @@ use Rattle.model.specs.Values.{number, index, firstCode, partCode, sameP
 use Rattle.model.specs.Plant.{PartHealth, PartCommands, largest, generator, generatorBreaker, busBreaker, parts, InRing}
 use Rattle.model.specs.Reports.{atNumber, places, healthOf, commandsOf, healthPlaces, commandPlaces}
 use Rattle.model.specs.Laws.Tests.{and-intro, dec-eq, contra, below-other, below-last}
-use Rattle.model.specs.Laws.Lists.{any-in, any-false, below-in, below-lt, below-length, below-at, map-in, map-at, rising-append}
+use Rattle.model.specs.Laws.Lists.{any-in, any-false, below-in, below-lt, below-length, map-below-at, map-in, map-at, rising-append}
 use Rattle.model.specs.Laws.Lists.{rising-map, rising-mono, rising-below}
 
 -- ---- one part
@@ -151,16 +151,7 @@ module _ {A : Type 0} (f : ℕ → A) where
 
   pub places-at : (i : ℕ) (d : A) → i < largest → getD (places f) i d ≡ f i
   unfolding places
-  places-at i d h = go
-    where
-      -- the default of the mapped list is never read
-      inside : (l : List ℕ) (j : ℕ) → j < length l → getD (map f l) j d ≡ f (getD l j 0)
-      inside [] j l = absurd (omega arith)
-      inside (x ∷ xs) zero l = refl
-      inside (x ∷ xs) (suc j) l = inside xs j (omega arith)
-
-      go : getD (map f (below largest)) i d ≡ f i
-      go = inside (below largest) i (omega (arith, below-length largest)) ∙ ap f (below-at largest i 0 h)
+  places-at i d h = map-below-at f largest i d h
 
   -- an array that holds f at each place
   pub is-places : (l : List A) (d : A) → length l ≡ largest → ((i : ℕ) → i < largest → getD l i d ≡ f i) → l ≡ places f

@@ -1,28 +1,64 @@
--- Safe: what was written fits, and a served file has the length that its count says.
-use mathlib.Core.Path.{_≡_, sym, _∙_}
-use Prim.Native.Nat.{_+_, _*_, _≤_}
+-- Safe and ending: the cursor is one of the file's run while more is left, and each piece brings the end nearer.
+use mathlib.Core.Path.{_≡_, refl, sym, _∙_, ap}
+use mathlib.Core.Bool.{true}
+use mathlib.Core.List.{List, _++_}
+use Prim.Native.Nat.{ℕ, _≤_, _<_}
 use native.Mathlib.Omega.{arith}
-use denote.Ref.{now}
-use lib.ListN.{length}
+use lib.ListN.{length, take, length-append}
+use lib.Seq.{length-take-le}
 use borrow.Author.Needs.{needs}
-use Rattle.text.specs.Lines.{filled}
-use Rattle.text.specs.Whole.{file-served}
+use borrow.Author.Tests.{ltb-true}
+use Rattle.model.specs.Text.{runLeft, Within}
 use Rattle.ringctl.proofs.print_run.Statement.{statement}
 use Rattle.ringctl.proofs.print_run.Tie as tie
 
-print-requires : tie.Need-print-requires
-print-requires c κs = let refused = c .before .before .before .refused-text .ensures in filled (refused .0) (refused .1) .fits
+abbrev Inv-loop : tie.InvT-loop
+Inv-loop file out₀ cursor₀ more₀ out cursor more = (more ≡ true → Within file cursor) × (length out ≡ length out₀)
 
--- the size and the count of a served file
-served : (d : tie.After-n)
-    → let n = d .n .given .0 .0 in let m = d .n .given .0 .1 .0 in
-    (3 ≤ n) × (n ≤ 20) × (m ≤ 4096) × (length (now (d .before .before .before .before .before .args .file)) ≡ 3 + 2 * m)
-served d = file-served _ _ _ (sym (d .before .before .check-file .ensures .0) ∙ d .n .given .1)
+abbrev μ-loop : tie.MeasureT-loop
+μ-loop file out₀ cursor₀ more₀ out cursor more = length (runLeft file (cursor .place))
+
+-- what is left behind a piece is shorter
+shorter : {left : List ℕ} (out rest : List ℕ) (k : ℕ) → left ≡ take k out ++ rest → 0 < k → k ≤ length out → length rest < length left
+shorter out rest k e p h = omega (arith, ap length e, length-append (take k out) rest, length-take-le k out h)
+
+loop-holds : tie.Need-loop-holds Inv-loop μ-loop
+loop-holds c = (λ e. c .begin .ensures .1 _ .0, refl)
+
+fill-requires : tie.Need-fill-requires Inv-loop μ-loop
+fill-requires c κs = let d = c .before .before in (d .loop .inv .0 (c .before .loop-test .taken), search needs)
+
+write-prefix : tie.Need-slice-reshare-prefix-write-all Inv-loop μ-loop
+write-prefix c = c .before .before .fill .ensures .1 .1 .0 .1
+
+write-slice : tie.Need-slice-aggregate-write-all Inv-loop μ-loop
+write-slice c = sym (length-take-le _ _ (c .before .before .before .fill .ensures .1 .1 .0 .1))
+
+loop-less : tie.Need-loop-less Inv-loop μ-loop
+loop-less c =
+    let e = c .before .before .before .before .before .before .fill .ensures in
+    shorter _ _ _ (e .0) (e .1 .1 .0 .0) (e .1 .1 .0 .1)
+
+loop-again : tie.Need-loop-again Inv-loop μ-loop
+loop-again c =
+    let e = c .before .before .before .before .before .before .fill .ensures in
+    (λ m. record { cursor = e .1 .1 .1 .0; more = ltb-true _ _ (sym (e .1 .1 .1 .1) ∙ m) }, search needs)
 
 pub print-run-spec : {M : Type 1} → statement M
 print-run-spec =
     tie.close
-    (tie.spec (λ c κs. search needs) (λ c. search needs) (λ c κs. search needs) print-requires (λ c. search needs)
-    (λ c. search (needs, served (c .before))) (λ c. search needs) (λ c. search needs) (λ c. omega (arith, served (c .before)))
-    (λ c. search (needs, served (c .before .before))) (λ c. omega (arith, served (c .before .before))) (λ c. omega (arith, served (c .before .before))) (λ c. search needs)
-    (λ c κs. search (needs, served (c .before .before .before .before))) (λ c. search needs) (λ c. search needs) (λ c. search needs) (λ c. search needs))
+    (tie.spec
+    Inv-loop
+    μ-loop
+    (λ c κs. search needs)
+    loop-holds
+    fill-requires
+    write-prefix
+    write-slice
+    (λ c κs. search needs)
+    (λ c. search needs)
+    (λ c. search needs)
+    loop-less
+    loop-again
+    (λ c. search needs)
+    (λ c. search needs))

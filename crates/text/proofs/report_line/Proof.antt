@@ -1,41 +1,84 @@
--- `text::report_line` meets its contract: a report that is read has a step's line, another none.
-use mathlib.Core.Path.{refl, sym, _∙_}
+-- `report_line`: the report is read, and the ring is told it. A served file has the length that its count says.
+use mathlib.Core.Path.{_≡_, refl, sym, _∙_}
+use Prim.Native.Nat.{ℕ, _+_, _*_}
 use native.Mathlib.Omega.{arith}
+use denote.Ref.{now}
+use lib.ListN.{length}
 use borrow.Author.Needs.{needs}
-use Rattle.text.specs.Lines.{lineOf, ringOf}
-use Rattle.text.specs.Served.{read-checked, read-line, no-line}
+use Rattle.model.specs.Reports.{fileCount}
+use Rattle.text.specs.Run.{Served, file-served, report-next, report-sure}
 use Rattle.text.proofs.report_line.Statement.{statement}
 use Rattle.text.proofs.report_line.Tie as tie
 
+served : (s : tie.Start) → Served (now (s .args .file))
+served s = file-served _ (s .pre .0)
+
+sub-m : tie.Need-sub-m
+sub-m c = omega (arith, served (c .before .before) .whole)
+
+part-report-at-end : tie.Need-part-report-at-end
+part-report-at-end c = omega (arith, served (c .before .before) .whole)
+
+sub-report-at-2 : tie.Need-sub-report-at-2
+sub-report-at-2 c = omega (arith, served (c .before .before .before) .whole)
+
+part-report-at-start-2 : tie.Need-part-report-at-start-2
+part-report-at-start-2 c = omega (arith, served (c .before .before .before) .whole)
+
+add-step-line : tie.Need-add-step-line
+add-step-line c = let s = c .before .before .before .before .before .before .before .before in omega (arith, s .pre .1, served s .few)
+
 step-line-requires : tie.Need-step-line-requires
 step-line-requires c κs =
-    let p = c .before .before .before .before .before .before .before .before .pre in
-    let r = c .before .before .before .before .report-at .ensures in
-    (p .0, read-checked _ _ _ _ _ (sym (r .0) ∙ c .before .before .report .given .1), omega (arith, p .1), p .2)
+    let s = c .before .before .before .before .before .before .before .before .before in
+    let d = c .before .before .before .before in
+    let t = report-next _ (s .pre .0) (s .pre .1) refl (s .pre .2) (d .report-at .ensures .0) _ (c .before .before .report .given .1) in
+    (t .0, t .1, omega (arith, s .pre .1, served s .few), s .pre .3)
 
 returns : tie.Need-returns
 returns c =
-    let r = c .before .before .before .before .before .before .before .report-at .ensures in
-    let l = c .before .before .step-line .ensures in
-    let e = read-line _ _ _ _ _ (sym (r .0) ∙ c .before .before .before .before .before .report .given .1) in
-    ((l .0 .0 ∙ sym (e .1), l .0 .1), rw (← e .0) at (l .1))
+    let s = c .before .before .before .before .before .before .before .before .before .before .before .before in
+    let d = c .before .before .before .before .before .before .before in
+    let read = c .before .before .before .before .before .report .given .1 in
+    let t = report-next _ (s .pre .0) (s .pre .1) refl (s .pre .2) (d .report-at .ensures .0) _ read in
+    rw (t .2) (c .before .before .step-line .ensures)
 
 returns-2 : tie.Need-returns-2
-unfolding lineOf ringOf
 returns-2 c =
-    let p = c .before .before .before .before .before .before .pre in
-    let e = no-line _ _ _ _ _ (sym (c .before .before .report-at .ensures .0) ∙ c .enum-told .given .1) refl refl in
-    ((e .0, p .0), e .1 _)
+    let s = c .before .before .before .before .before .before .before in
+    let d = c .before .before in
+    absurd
+    (report-sure _ (s .pre .0) (s .pre .1) refl (s .pre .2) (d .report-at .ensures .0) (c .enum-told .given .1)
+    (λ r e. let z : _≡_ {A = ℕ} 0 1 = cc in omega arith))
 
 returns-3 : tie.Need-returns-3
-unfolding lineOf ringOf
 returns-3 c =
-    let p = c .before .before .before .before .before .before .pre in
-    let e = no-line _ _ _ _ _ (sym (c .before .before .report-at .ensures .0) ∙ c .enum-told2 .given .1) refl refl in
-    ((e .0, p .0), e .1 _)
+    let s = c .before .before .before .before .before .before .before in
+    let d = c .before .before in
+    absurd
+    (report-sure _ (s .pre .0) (s .pre .1) refl (s .pre .2) (d .report-at .ensures .0) (c .enum-told2 .given .1)
+    (λ r e. let z : _≡_ {A = ℕ} 0 1 = cc in omega arith))
 
 pub report-line-spec : {M : Type 1} → statement M
 report-line-spec =
     tie.close
-    (tie.spec (λ c κs. search needs) (λ c. search needs) (λ c. search needs) step-line-requires (λ c. search needs) (λ c. search needs) (λ c. search needs)
-    returns returns-2 returns-3)
+    (tie.spec
+    sub-m
+    (λ c. search needs)
+    (λ c. search needs)
+    (λ c. search needs)
+    part-report-at-end
+    (λ c. search needs)
+    sub-report-at-2
+    part-report-at-start-2
+    (λ c. search needs)
+    (λ c κs. search needs)
+    (λ c. search needs)
+    add-step-line
+    step-line-requires
+    (λ c. search needs)
+    (λ c. search needs)
+    (λ c. search needs)
+    returns
+    returns-2
+    returns-3)

@@ -1,4 +1,4 @@
--- `text::start_line` meets its contract: with a buffer of 122 bytes the start is served.
+-- `start_line`: with a buffer of 122 bytes the start is served.
 use native.Mathlib.Omega.{arith}
 use borrow.Author.Needs.{needs}
 use Rattle.model.specs.Reports.{blankRing}
@@ -6,9 +6,9 @@ use Rattle.text.specs.Served.{start-given}
 use Rattle.text.proofs.start_line.Statement.{statement}
 use Rattle.text.proofs.start_line.Tie as tie
 
-line-requires : tie.Need-sheet-line-requires
+sheet-line-requires : tie.Need-sheet-line-requires
 unfolding blankRing
-line-requires c κs =
+sheet-line-requires c κs =
     let d = c .before .before .before .before .before in
     let g = start-given _ (search needs) (search needs) _ (search needs) _ _ (d .start .ensures) in
     (omega arith, search needs, search needs, g .named, g .sheet, search needs)
@@ -19,7 +19,7 @@ returns c =
     let d = c .before .before .before .before .before .before .before .before in
     let l = c .before .before .sheet-line .ensures in
     let g = start-given _ (search needs) (search needs) _ (search needs) _ _ (d .start .ensures) in
-    (g .next, g .stored 0 (omega arith) (search needs) _ _ _ (l .0) (l .1))
+    g .shown 0 _ _ _ (l .0) (l .1)
 
 pub start-line-spec : {M : Type 1} → statement M
-start-line-spec = tie.close (tie.spec (λ c. search needs) (λ c κs. search needs) (λ c. search needs) line-requires (λ c. search needs) returns)
+start-line-spec = tie.close (tie.spec (λ c. search needs) (λ c κs. search needs) (λ c. search needs) sheet-line-requires (λ c. search needs) returns)

@@ -2,7 +2,9 @@
 use Rattle.planner.proofs.Auto.{auto}
 use Rattle.planner.proofs.search.high_rises.Statement.{statement}
 use Rattle.planner.proofs.search.high_rises.Tie as tie
-use Rattle.model.specs.Priority.{highRises}
+use native.Mathlib.Omega.{arith}
+use Rattle.model.specs.Laws.Tests.{facts}
+use Rattle.planner.specs.Search.{high-by}
 
 up-requires : tie.Need-up-requires
 up-requires c κs = search auto
@@ -11,8 +13,7 @@ up-requires-2 : tie.Need-up-requires-2
 up-requires-2 c κs = search auto
 
 returns : tie.Need-returns
-unfolding highRises
-returns c = rw (c .before .up .ensures, c .up2 .ensures)
+returns c = let a = c .before .before .args in high-by (a .n) (a .g) (a .b) _ (λ l e. omega (arith, facts)) (λ l e. omega (arith, facts))
 
 pub high-rises-spec : {M : Type 1} → statement M
 high-rises-spec = tie.close (tie.spec up-requires up-requires-2 returns)

@@ -2,16 +2,19 @@
 use Rattle.planner.proofs.Auto.{auto}
 use Rattle.planner.proofs.search.rises.Statement.{statement}
 use Rattle.planner.proofs.search.rises.Tie as tie
-use borrow.Author.Tests.{eq-eqb, ne-eqb}
+use native.Mathlib.Omega.{arith}
+use mathlib.Core.Path.{ap}
+use mathlib.Core.Bool.{not}
+use Rattle.planner.specs.Search.{rises-by}
 
 high-rises-requires : tie.Need-high-rises-requires
 high-rises-requires c κs = search auto
 
 returns : tie.Need-returns
-returns c = rw (c .before .high-rises .ensures, eq-eqb _ _ (c .if1 .taken))
+returns c = let a = c .before .before .args in rises-by (a .n) (a .b) (a .g) (a .p) (λ e. c .before .high-rises .ensures) (λ e. absurd (omega arith))
 
 returns-2 : tie.Need-returns-2
-returns-2 c = rw (c .before .high-rises .ensures, ne-eqb _ _ (c .if1 .left))
+returns-2 c = let a = c .before .before .args in rises-by (a .n) (a .b) (a .g) (a .p) (λ e. absurd (omega arith)) (λ e. ap not (c .before .high-rises .ensures))
 
 pub rises-spec : {M : Type 1} → statement M
 rises-spec = tie.close (tie.spec high-rises-requires returns returns-2)

@@ -2,26 +2,26 @@
 use Rattle.planner.proofs.Auto.{auto}
 use Rattle.planner.proofs.search.search.Statement.{statement}
 use Rattle.planner.proofs.search.search.Tie as tie
-use Prim.Native.Nat.{_≤_, _-_}
+use Prim.Native.Nat.{_-_}
 use Rattle.planner.specs.Search.{pathsAfter, pathsLeft, Left, left-start, left-source, left-miss, left-hit, left-next, left-none}
 
 abbrev Inv-loop : tie.InvT-loop
-Inv-loop n usable breakers owners b found₀ r p₀ found p = (p ≤ 2) × Left n usable breakers owners b found (pathsLeft n b r p)
+Inv-loop n usable breakers owners b found₀ r p₀ found p = Left n usable breakers owners b found (pathsLeft n b r p)
 
 abbrev μ-loop : tie.MeasureT-loop
-μ-loop n usable breakers owners b found₀ r p₀ found p = 2 - p
+μ-loop n usable breakers owners b found₀ r p₀ found p = n - p
 
 abbrev Inv-sources : tie.InvT-sources
-Inv-sources n usable breakers owners b found₀ r₀ found r = (r ≤ n) × Left n usable breakers owners b found (pathsAfter n b r)
+Inv-sources n usable breakers owners b found₀ r₀ found r = Left n usable breakers owners b found (pathsAfter n b r)
 
 abbrev μ-sources : tie.MeasureT-sources
 μ-sources n usable breakers owners b found₀ r₀ found r = n - r
 
 sources-holds : tie.Need-sources-holds Inv-loop μ-loop Inv-sources μ-sources
-sources-holds c = (search auto, left-start _ _ _ _ _)
+sources-holds c = left-start _ _ _ _ _
 
 loop-holds : tie.Need-loop-holds Inv-loop μ-loop Inv-sources μ-sources
-loop-holds c = (search auto, left-source (c .before .sources .r) (search auto) (search auto) (c .before .sources .inv .1))
+loop-holds c = left-source (c .before .sources .r) (search auto) (search auto) (c .before .sources .inv)
 
 source-requires : tie.Need-source-requires Inv-loop μ-loop Inv-sources μ-sources
 source-requires c κs = search auto
@@ -42,7 +42,7 @@ loop-again : tie.Need-loop-again Inv-loop μ-loop Inv-sources μ-sources
 loop-again c =
     let d = c .before .before in
     let q = d .before .before in
-    (search auto, left-miss (q .before .before .sources .r) (q .loop .p) (d .source .ensures .0) (c .before .permitted .ensures) (c .if1 .left) (q .loop .inv .1))
+    left-miss (q .before .before .sources .r) (q .loop .p) (d .source .ensures .0) (c .before .permitted .ensures) (c .if1 .left) (q .loop .inv)
 
 add-r : tie.Need-add-r Inv-loop μ-loop Inv-sources μ-sources
 add-r c = search auto
@@ -51,17 +51,17 @@ sources-less : tie.Need-sources-less Inv-loop μ-loop Inv-sources μ-sources
 sources-less c = search auto
 
 sources-again : tie.Need-sources-again Inv-loop μ-loop Inv-sources μ-sources
-sources-again c = let q = c .before in (search auto, left-next (q .before .before .sources .r) (q .loop .p) (c .loop-test .left) (q .loop .inv .1))
+sources-again c = let q = c .before in left-next (q .before .before .sources .r) (q .loop .p) (search auto) (q .loop .inv)
 
 returns : tie.Need-returns Inv-loop μ-loop Inv-sources μ-sources
-returns c = left-none (c .before .sources .r) (search auto) (c .sources-test .left) (c .before .sources .inv .1)
+returns c = left-none (c .before .sources .r) (search auto) (search auto) (c .before .sources .inv)
 
 returns-2 : tie.Need-returns-2 Inv-loop μ-loop Inv-sources μ-sources
 returns-2 c =
     let d = c .before .before .before in
     let q = d .before .before in
     left-hit (q .before .before .sources .r) (q .loop .p) (d .source .ensures .0) (c .before .before .permitted .ensures) (c .before .if1 .taken)
-    (c .rises .ensures) (q .loop .inv .1)
+    (c .rises .ensures) (q .loop .inv)
 
 pub search-spec : {M : Type 1} → statement M
 search-spec =

@@ -1,0 +1,304 @@
+"""Readable lines and fault files: `ring 3`, `BB2 stuck open` to bytes and back, and what the controller refuses, in words.
+
+A part is its kind and number, as G1, GB3 or BB2; numbers go from 1 to 20, and no further than the ring's size. Words are those
+of WORDS. Where a byte has no name it is written as a number: `code 99 word 7`; a file that has not the shape of a fault file is
+written as `bytes 3 1 0 64`. What follows a # is passed over, so are empty lines, and case, spaces and tabs do not matter.
+"""
+import re
+
+from ringtools import Failure, LONGEST_FILE, is_readable
+
+KINDS = ("G", "GB", "BB")
+FIRST_CODE = {"G": 0, "GB": 32, "BB": 64}
+MOST = 20
+MOST_REPORTS = 4096
+
+# The words of a report, by number.
+WORDS = ("fit", "stuck off", "stuck open", "stuck closed")
+
+# The words that each kind of part takes; a generator that has failed is not made fit again (refusal 7).
+WORDS_OF_KIND = {"G": ("stuck off",), "GB": ("fit", "stuck open", "stuck closed"), "BB": ("fit", "stuck open", "stuck closed")}
+
+
+class Mistake(Exception):
+    """Why a line cannot be read."""
+
+
+def name_of(code):
+    """The part of a code in the largest ring, or None."""
+    for kind in KINDS:
+        if FIRST_CODE[kind] <= code < FIRST_CODE[kind] + MOST:
+            return "%s%d" % (kind, code - FIRST_CODE[kind] + 1)
+    return None
+
+
+def kind_of(name):
+    return name.rstrip("0123456789")
+
+
+def range_text(kind, size):
+    return "a ring of %d has %s1 to %s%d" % (size, kind, kind, size)
+
+
+def number_in(text, most, what):
+    """A decimal number, at most so large."""
+    if not re.fullmatch("[0-9]+", text):
+        raise Mistake("%s is a number from 0 to %d" % (what, most))
+    if len(text.lstrip("0")) > 5 or int(text) > most:
+        raise Mistake("%s is at most %d" % (what, most))
+    return int(text)
+
+
+def part_code(text, size):
+    """The code of a part's name in a ring."""
+    name = re.fullmatch("(g|gb|bb)([0-9]+)", text.lower())
+    if not name:
+        raise Mistake("this names no part; parts are G1, GB1, BB1 and so on")
+    kind = name.group(1).upper()
+    digits = name.group(2).lstrip("0")
+    if not digits or len(digits) > 2 or int(digits) > MOST:
+        raise Mistake("%s are numbered from 1 to %d" % (kind, MOST))
+    if int(digits) > size:
+        raise Mistake(range_text(kind, size))
+    return FIRST_CODE[kind] + int(digits) - 1
+
+
+def word_number(texts):
+    """The number of a word."""
+    word = " ".join(texts).lower()
+    if not texts:
+        raise Mistake("the word is missing; words are: " + ", ".join(WORDS))
+    if word in WORDS:
+        return WORDS.index(word)
+    if len(texts) == 2 and texts[0].lower() == "word":
+        return number_in(texts[1], 255, "a word")
+    raise Mistake("the word is none of: " + ", ".join(WORDS))
+
+
+def report_in(texts, size):
+    """The code and the word of a report's line."""
+    if texts[0].lower() == "code" and len(texts) > 1:
+        return number_in(texts[1], 255, "a code"), word_number(texts[2:])
+    return part_code(texts[0], size), word_number(texts[1:])
+
+
+def size_in(texts):
+    """The size in the line `ring N`."""
+    if len(texts) != 2 or texts[0].lower() != "ring":
+        raise Mistake("the first line is `ring N`, as `ring 3`")
+    return number_in(texts[1], 255, "a ring has from 3 to 20 buses; the number that stands for them")
+
+
+class Line:
+    """A line that says something: its number in the text, and its words."""
+
+    def __init__(self, number, texts):
+        self.number = number
+        self.texts = texts
+
+    def __str__(self):
+        text = "".join(c if c.isprintable() else "?" for c in " ".join(self.texts))
+        return "line %d: %s" % (self.number, text if len(text) <= 60 else text[:60] + "..")
+
+
+def lines_in(data):
+    """The lines that say something. A line ends as on any system."""
+    text = data.decode("utf-8-sig", "replace").replace("\r\n", "\n").replace("\r", "\n")
+    numbered = enumerate((line.split("#")[0].split() for line in text.split("\n")), start=1)
+    return [Line(number, texts) for number, texts in numbered if texts]
+
+
+def read_all(lines, read):
+    """What `read` makes of each line; every line with a mistake is named in the failure."""
+    found, mistakes = [], []
+    for line in lines:
+        try:
+            found.append(read(line.texts))
+        except Mistake as mistake:
+            mistakes.append("%s: %s" % (line, mistake))
+    if mistakes:
+        more = ["and %d lines more" % (len(mistakes) - 20)] if len(mistakes) > 20 else []
+        raise Failure("\n".join(mistakes[:20] + more))
+    return found
+
+
+def size_of(lines):
+    """The ring's size, from the first line."""
+    if not lines:
+        raise Failure("line 1: the first line is `ring N`, as `ring 3`")
+    return read_all(lines[:1], size_in)[0]
+
+
+def bytes_in(texts):
+    """The bytes of a line `bytes 3 1 0`."""
+    if texts[0].lower() != "bytes":
+        raise Mistake("after a line `bytes` there are only such lines")
+    return bytes(number_in(text, 255, "a byte") for text in texts[1:])
+
+
+def is_bytes(lines):
+    return bool(lines) and lines[0].texts[0].lower() == "bytes"
+
+
+def joined(size, reports):
+    """The bytes of a fault file."""
+    count = len(reports)
+    if count > 65535:
+        raise Failure("a fault file counts at most 65535 reports, not %d" % count)
+    return bytes([size, count % 256, count // 256] + [code for code, _ in reports] + [word for _, word in reports])
+
+
+def encode(data):
+    """The fault file of readable lines."""
+    lines = lines_in(data)
+    if is_bytes(lines):
+        return b"".join(read_all(lines, bytes_in))
+    size = size_of(lines)
+    return joined(size, read_all(lines[1:], lambda texts: report_in(texts, size)))
+
+
+def fault_file(data):
+    """A fault file as it is, or that of readable lines."""
+    return encode(data) if is_readable(data) else data
+
+
+# ---- what the controller refuses
+
+def file_refusal(data):
+    """Refusals 1 to 4 and their reason, in the controller's order; 0 for a file of the right shape."""
+    if len(data) < 3:
+        return 1, "a fault file has at least 3 bytes, this one %d" % len(data)
+    size, count = data[0], data[1] + 256 * data[2]
+    if not 3 <= size <= MOST:
+        return 2, "a ring has from 3 to %d buses, not %d" % (MOST, size)
+    if count > MOST_REPORTS:
+        return 3, "there are at most %d reports, not %d" % (MOST_REPORTS, count)
+    if len(data) != 3 + 2 * count:
+        return 4, "with %d reports a file has %d bytes, this one %s" % (
+            count, 3 + 2 * count, "more than %d" % LONGEST_FILE if len(data) > LONGEST_FILE else len(data))
+    return 0, ""
+
+
+def report_refusal(size, code, word):
+    """Refusals 5 to 7 of a report and their reason; 0 for one that is served."""
+    name = name_of(code)
+    if name is None:
+        return 5, "code %d names no part" % code
+    kind = kind_of(name)
+    if code - FIRST_CODE[kind] >= size:
+        return 5, range_text(kind, size)
+    if word >= len(WORDS):
+        return 6, "word %d is none: words go from 0 to %d" % (word, len(WORDS) - 1)
+    if WORDS[word] in WORDS_OF_KIND[kind]:
+        return 0, ""
+    if kind == "G" and WORDS[word] == "fit":
+        return 7, "a generator that has failed is not made fit again"
+    *others, last = WORDS_OF_KIND[kind]
+    words = ", ".join(others) + " or " + last if others else last
+    return 6, "a %s is reported as %s" % ("generator" if kind == "G" else "breaker", words)
+
+
+def shaped(data):
+    """Whether the bytes have the shape of a fault file, whatever they say."""
+    return len(data) >= 3 and len(data) == 3 + 2 * (data[1] + 256 * data[2])
+
+
+def reports_of(data):
+    """The codes and words of a file of the right shape."""
+    count = data[1] + 256 * data[2]
+    return list(zip(data[3:3 + count], data[3 + count:]))
+
+
+def report_text(size, code, word):
+    """A report as a line that `encode` takes back."""
+    name = name_of(code)
+    if name is None or code - FIRST_CODE[kind_of(name)] >= size:
+        return "code %d word %d" % (code, word)
+    return "%s %s" % (name, WORDS[word] if word < len(WORDS) else "word %d" % word)
+
+
+def decode(data):
+    """A fault file as lines that `encode` takes back, whatever its bytes."""
+    number, reason = file_refusal(data)
+    remark = ["# refused %d: %s" % (number, reason)] if number else []
+    if not shaped(data):
+        rows = [data[i:i + 16] for i in range(0, len(data), 16)] or [b""]
+        return "\n".join(remark + [" ".join(["bytes"] + [str(byte) for byte in row]) for row in rows]) + "\n"
+    lines = ["ring %d" % data[0]]
+    for code, word in reports_of(data):
+        refusal, why = report_refusal(data[0], code, word)
+        lines.append(report_text(data[0], code, word) + ("    # refused %d: %s" % (refusal, why) if refusal else ""))
+    return "\n".join(remark + lines) + "\n"
+
+
+def labelled_file(data):
+    """A fault file, and for each of its reports the line that it stands in, or its number. A part that the ring lacks has its code
+    here, so that it can be judged."""
+    lines = lines_in(data) if is_readable(data) else []
+    if lines and not is_bytes(lines):
+        reports = read_all(lines[1:], lambda texts: report_in(texts, MOST))
+        return joined(size_of(lines), reports), [str(line) for line in lines[1:]]
+    file = fault_file(data)
+    reports = reports_of(file) if shaped(file) else []
+    return file, ["report %d: %s" % (i, report_text(file[0], *report)) for i, report in enumerate(reports, start=1)]
+
+
+def check(data):
+    """What the controller would refuse in a fault file or in readable lines, a line each, and the number of its answer, 0 where it
+    serves."""
+    file, labels = labelled_file(data)
+    number, reason = file_refusal(file)
+    if number:
+        return ["refused %d, %s" % (number, reason)], number
+    found = []
+    for label, (code, word) in zip(labels, reports_of(file)):
+        refusal, reason = report_refusal(file[0], code, word)
+        if refusal:
+            found.append((refusal, "%s: refused %d, %s" % (label, refusal, reason)))
+    return [line for _, line in found], found[0][0] if found else 0
+
+
+# ---- the plant: health and orders
+
+class Plant:
+    """A ring's health and last orders, part by part, from readable lines: at first all fit, off and open."""
+
+    def __init__(self, size):
+        self.size = size
+        self.health = {}
+        self.orders = {}
+
+    def order(self, text, on, kinds, advice):
+        code = part_code(text, self.size)
+        if kind_of(name_of(code)) not in kinds:
+            raise Mistake("%s: %s" % (text, advice))
+        self.orders[code] = on
+
+    def take(self, texts):
+        """A line: a report of health, or an order."""
+        first, last = texts[0].lower(), texts[-1].lower()
+        if first in ("close", "open"):
+            if len(texts) == 1:
+                raise Mistake("name the breakers, as `%s BB2`" % first)
+            for text in texts[1:]:
+                self.order(text, first == "close", ("GB", "BB"), "a generator is ordered `on` or `off`, as `G1 on`")
+        elif len(texts) == 2 and last in ("on", "off"):
+            self.order(texts[0], last == "on", ("G",), "a breaker is ordered by `close` or `open`, as `close BB2`")
+        else:
+            code, word = report_in(texts, self.size)
+            if name_of(code) is None:
+                raise Mistake("code %d names no part" % code)
+            self.health[code] = word
+
+    def case(self):
+        """The bytes that the program takes: the size, the health of sixty parts and their orders."""
+        codes = [FIRST_CODE[kind] + i for kind in KINDS for i in range(MOST)]
+        return bytes([self.size] + [self.health.get(code, 0) for code in codes] + [int(self.orders.get(code, False)) for code in codes])
+
+
+def plant_case(data):
+    """The case of readable lines of ring, health and orders."""
+    lines = lines_in(data)
+    plant = Plant(size_of(lines))
+    read_all(lines[1:], plant.take)
+    return plant.case()

@@ -1,0 +1,12 @@
+-- `begin`: no line is passed, and every run has a first line.
+use mathlib.Core.Path.{refl}
+use borrow.Author.Needs.{needs}
+use Rattle.text.specs.Run.{at-beginning}
+use Rattle.text.proofs.begin.Statement.{statement}
+use Rattle.text.proofs.begin.Tie as tie
+
+returns : tie.Need-returns
+returns c = at-beginning (c .blank .ensures)
+
+pub begin-spec : {M : Type 1} → statement M
+begin-spec = tie.close (tie.spec (λ c κs. search needs) returns)

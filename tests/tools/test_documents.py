@@ -1,0 +1,122 @@
+"""The documents: their commands run, their runs are right, and the picture of the layers is that of the crates."""
+import os
+import re
+import subprocess
+import tempfile
+import unittest
+
+from support import path, read, run, tool
+
+KIT = {"io", "libc", "os", "check", "bytes"}
+
+
+def text_of(*names):
+    return read(*names).decode()
+
+
+def commands(text):
+    """The commands in a document's indented blocks: a line from `bin/` to two spaces."""
+    return [re.split(r"  +", line.strip())[0] for line in text.splitlines() if line.startswith("    bin/")]
+
+
+class Commands(unittest.TestCase):
+
+    def check_commands(self, text):
+        found = commands(text)
+        self.assertGreater(len(found), 4)
+        with tempfile.TemporaryDirectory() as folder:
+            for name in ("bin", "examples"):
+                os.symlink(path(name), os.path.join(folder, name))
+            for command in found:
+                with self.subTest(command):
+                    answer = run(["sh", "-c", command], cwd=folder, stdin=subprocess.DEVNULL)
+                    self.assertEqual(answer.said, "")
+                    self.assertEqual(answer.status, int("refused" in command))
+
+    def test_readme(self):
+        self.check_commands(text_of("README.md"))
+
+    def test_examples(self):
+        self.check_commands(text_of("examples", "README.md"))
+
+    def test_the_run_in_the_readme(self):
+        shown = re.search(r"((?:    .*\n)+)", text_of("README.md").split("The run is\n")[1]).group(1)
+        self.assertEqual(re.sub("^    ", "", shown, flags=re.M).encode(), tool("ringctl", path("examples", "bus-breaker-open.txt")).out)
+
+    def test_the_line_on_the_card(self):
+        line = re.search(r"\*\*The run\.\*\* `(.*?)`", text_of("docs", "CARD.md")).group(1)
+        self.assertIn(line.encode() + b"\n", read("examples", "bus-breaker-open.run"))
+
+    def test_card_and_readme_agree(self):
+        """Both have the picture of the ring, and the nine refusals."""
+        readme, card = text_of("README.md"), text_of("docs", "CARD.md")
+        picture = re.search(r"((?:    .*\n)+)", card).group(1)
+        self.assertIn(picture, readme)
+        for text in (readme, card):
+            self.assertEqual(re.findall(r"^\| (\d) \|", text, re.M), [str(k) for k in range(1, 10)])
+
+    def test_links_lead_somewhere(self):
+        for name in ("README.md", "docs/CARD.md", "examples/README.md", "examples/exercises.md"):
+            for target in re.findall(r"`?\b((?:docs|examples|tests|bench|bin|crates)/[\w./-]+\w)", text_of(name)):
+                if "NAME" not in target and "CRATE" not in target:
+                    self.assertTrue(os.path.exists(path(target)), "%s: %s" % (name, target))
+
+    def test_the_kit(self):
+        try:
+            version = run(["rt", "version"], stdin=subprocess.DEVNULL).out.decode().strip()
+        except OSError:
+            self.skipTest("the kit is not on the path")
+        self.assertIn("`%s`" % version, " ".join(text_of("README.md").split()))
+
+
+class Layers(unittest.TestCase):
+    """README's picture: a row a layer, its name, two spaces or more, and its crates; a crate uses only crates of the rows below."""
+
+    def listed(self):
+        lines = (line.split("#")[0].partition(":") for line in text_of("crates.txt").splitlines())
+        return {crate.strip(): names.split() for crate, colon, names in lines if colon}
+
+    def rows(self):
+        block = re.search(r"((?:    .*\n)+)", text_of("README.md").split("## What is here\n")[1]).group(1)
+        return [re.split(r"  +", row.strip(), maxsplit=1)[1].split() for row in block.splitlines()]
+
+    def used(self, crate, names):
+        """The crates that the sources of a crate name."""
+        found = set()
+        for folder, _, files in os.walk(path("crates", crate)):
+            for file in files:
+                if file.endswith((".rt", ".antt")) and "must-fail" not in folder:
+                    text = re.sub(r"(//|--).*", "", text_of(os.path.join(folder, file)))
+                    found |= set(re.findall(r"Rattle·([a-z_0-9]+)", text))
+                    found |= set(re.findall(r"\b([a-z_0-9]+)::", text)) if file.endswith(".rt") else set()
+        return (found & (names | KIT)) - {crate}
+
+    def test_every_crate_stands_in_one_row(self):
+        self.assertEqual(sorted(sum(self.rows(), [])), sorted(self.listed()))
+        self.assertEqual(sorted(os.listdir(path("crates"))), sorted(self.listed()))
+
+    def test_a_crate_uses_rows_below_it(self):
+        level = {crate: -i for i, row in enumerate(self.rows()) for crate in row}
+        for crate, names in self.listed().items():
+            for name in names:
+                if name not in KIT:
+                    self.assertLess(level[name], level[crate], "%s uses %s" % (crate, name))
+
+    def test_crates_are_listed_behind_those_they_use(self):
+        order = list(self.listed())
+        for crate, names in self.listed().items():
+            for name in set(names) - KIT:
+                self.assertLess(order.index(name), order.index(crate))
+
+    def test_the_code_uses_what_is_listed(self):
+        listed = self.listed()
+        for crate, names in listed.items():
+            self.assertEqual(self.used(crate, set(listed)), set(names), crate)
+
+    def test_every_crate_is_described(self):
+        for crate in self.listed():
+            self.assertRegex(text_of("README.md"), r"\n\|[^|]*`%s`[^|]*\|" % crate)
+
+
+if __name__ == "__main__":
+    unittest.main()

@@ -1,0 +1,79 @@
+"""Every example and exercise, with its expected run: by the simulation, and by the tools."""
+import glob
+import os
+import re
+import unittest
+
+from support import ToolCase, faultlines, make_vectors, path, read, ringsim, tool
+
+EXAMPLES = sorted(os.path.basename(name)[:-4] for name in glob.glob(path("examples", "*.txt")))
+ERRORS = sorted(os.path.basename(name)[:-4] for name in glob.glob(path("examples", "errors", "*.txt")))
+
+
+def simulated_plant(lines):
+    """The simulation's answer to readable lines of ring, health and orders."""
+    case = faultlines.plant_case(lines)
+    health, orders = dict(zip(ringsim.ALL_CODES, case[1:61])), dict(zip(ringsim.ALL_CODES, map(bool, case[61:])))
+    return make_vectors.plant_text(case[0], health, orders).encode()
+
+
+class Examples(ToolCase):
+
+    def test_each_has_its_files(self):
+        for folder, names, ends in (("examples", EXAMPLES, ("txt", "faults", "run")), ("examples/errors", ERRORS, ("txt", "feeds"))):
+            files = [name for name in os.listdir(path(folder)) if not name.endswith(".md") and name != "errors"]
+            self.assertEqual(sorted(files), sorted("%s.%s" % (name, end) for name in names for end in ends))
+
+    def test_each_is_in_the_list(self):
+        text = read("examples", "README.md").decode()
+        for name in EXAMPLES:
+            self.assertIn("| %s |" % name, text)
+        for name in ERRORS:
+            self.assertIn("examples/errors/%s.txt" % name, text)
+
+    def test_runs(self):
+        for name in EXAMPLES:
+            with self.subTest(name):
+                expected, file = read("examples", name + ".run"), read("examples", name + ".faults")
+                status = int(expected.startswith(b"refused"))
+                self.assertEqual(ringsim.printed_run(file), expected)
+                self.check(tool("faultfile", "encode", path("examples", name + ".txt")), 0, file)
+                for end in (".txt", ".faults"):
+                    self.check(tool("ringctl", path("examples", name + end)), status, expected)
+
+    def test_errors(self):
+        for name in ERRORS:
+            with self.subTest(name):
+                expected = read("examples", "errors", name + ".feeds")
+                self.assertEqual(simulated_plant(read("examples", "errors", name + ".txt")), expected)
+                self.check(tool("ringplant", path("examples", "errors", name + ".txt")), 0, expected)
+
+    def test_what_the_examples_are_for(self):
+        runs = {name: read("examples", name + ".run") for name in EXAMPLES}
+        self.assertIn(b"refused", runs["refused-word"])
+        self.assertIn(b"B3=-", runs["cut-off"])
+        self.assertIn(b"B4=G2h", runs["tie-of-four"])
+        clashes = [name for name in ERRORS if b"clash G1 G2" in read("examples", "errors", name + ".feeds")]
+        self.assertEqual(clashes, ["breaker-behind", "closing-first", "stuck-closed-taken-for-open"])
+
+
+class Exercises(ToolCase):
+
+    def test_answers(self):
+        text = read("examples", "exercises.md").decode()
+        asked = dict(re.findall(r"```exercise-(\d+)\n(.*?)```", text, re.S))
+        answers = dict(re.findall(r"```answer-(\d+)\n(.*?)```", text, re.S))
+        tools = dict(re.findall(r"## (\d+)\..*?For `bin/(\w+)`", text, re.S))
+        self.assertGreater(len(asked), 8)
+        self.assertEqual(asked.keys(), answers.keys())
+        self.assertEqual(asked.keys(), tools.keys())
+        for number, lines in asked.items():
+            with self.subTest(number):
+                lines, expected = lines.encode(), answers[number].encode()
+                simulated = simulated_plant(lines) if tools[number] == "ringplant" else ringsim.printed_run(faultlines.encode(lines))
+                self.assertEqual(simulated, expected)
+                self.check(tool(tools[number], data=lines), int(expected.startswith(b"refused")), expected)
+
+
+if __name__ == "__main__":
+    unittest.main()

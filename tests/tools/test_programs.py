@@ -1,0 +1,62 @@
+"""The built programs themselves, beside the simulation: stored runs and others."""
+import os
+import subprocess
+import sys
+import tempfile
+import unittest
+
+from support import make_vectors, path, program, read, run, stored_runs, tool
+
+
+class Programs(unittest.TestCase):
+
+    def test_every_stored_run(self):
+        """What the program prints is read in its source; here every stored run holds it to its bytes."""
+        count = 0
+        for data, text in stored_runs():
+            answer = program("ringctl", data)
+            self.assertEqual((answer.out, answer.said, answer.status), (text, "", 0), data)
+            count += 1
+        self.assertEqual(read("crates", "vectors", "stdout"), b"%d cases, 0 differ\n" % count)
+
+    def test_the_program_says_what_it_cannot_do(self):
+        with open("/dev/full", "wb") as full:
+            for data in (b"\3\0\0", b"\3", bytes([20, 0, 16]) + b"\x40" * 4096 + b"\2" * 4096):
+                self.assertEqual(program("ringctl", data, stdout=full).said, "ringctl: standard output cannot be written\n")
+        folder = os.open(path("examples"), os.O_RDONLY)
+        self.addCleanup(os.close, folder)
+        answer = program("ringctl", stdin=folder)
+        self.assertEqual((answer.out, answer.said), (b"", "ringctl: standard input cannot be read\n"))
+
+    def test_stored_runs_by_the_command(self):
+        for data, text in list(stored_runs())[::15]:
+            answer = tool("ringctl", data=data)
+            self.assertEqual((answer.out, answer.status), (text, int(text.startswith(b"refused"))), data)
+
+    def test_stored_cases_are_the_simulations(self):
+        for name, data in make_vectors.stored_files():
+            self.assertEqual(read("crates", name), data, name)
+
+    def test_other_cases(self):
+        with tempfile.TemporaryDirectory() as folder:
+            made = run([sys.executable, "-B", path("tests", "make_vectors.py"), "--seed", "14", "--out", folder])
+            self.assertEqual(made.status, 0, made.said)
+            for name in ("vectors", "vectors_plant", "vectors_step"):
+                if os.access(path("target", "bin", name), os.X_OK):
+                    with self.subTest(name):
+                        answer = program(name, cwd=os.path.join(folder, name))
+                        self.assertRegex(answer.out.decode(), "^[0-9]+ cases, 0 differ\n$")
+                        self.assertNotEqual(read(folder, name, "cases"), read("crates", name, "data", "cases"))
+
+    def test_seed_and_folder_go_together(self):
+        answer = run([sys.executable, "-B", path("tests", "make_vectors.py"), "--seed", "14"])
+        self.assertEqual(answer.status, 2)
+
+    def test_the_simulation_by_its_own_tests(self):
+        answer = run([sys.executable, "-B", path("tests", "simulation", "selftest.py"), "--quick"], stdin=subprocess.DEVNULL)
+        self.assertEqual(answer.status, 0)
+        self.assertRegex(answer.out.decode(), r"all told: [0-9]+ good, 0 bad\s*$")
+
+
+if __name__ == "__main__":
+    unittest.main()
