@@ -1,9 +1,10 @@
 -- The bytes of the command sheet in the order in which they are stored.
-use mathlib.Core.Path.{_≡_, refl, ap}
-use mathlib.Core.List.{List, [], _∷_, _++_, map, map-append, append-assoc}
+use mathlib.Core.Path.{_≡_, refl, _∙_, ap}
+use mathlib.Core.List.{List, [], _∷_, _++_, map, map-append, append-assoc, append-nil}
 use Prim.Native.Nat.{ℕ, _+_, _*_, _≤_}
 use native.Mathlib.Omega.{arith}
 use lib.ListN.{length, replicate, length-append, length-map, length-replicate}
+use lib.Seq.{drop-length}
 use Rattle.model.specs.declared.Part.{Part}
 use Rattle.model.specs.declared.Commands.{Commands}
 use Rattle.model.specs.Sheet.{sheetOf, sheet, written}
@@ -27,10 +28,11 @@ pub layout-length : (xs ys : List ℕ) → length (layout xs ys) ≡ 2 + 2 * (le
 unfolding layout
 layout-length xs ys = simp (length-append, length-replicate) (omega arith)
 
--- sizes, codes and commands, stored one after the other from the front on
-pub laid-out : (xs ys : List ℕ) {l l′ : List ℕ} {o c j : ℕ} → length xs ≡ o → length ys ≡ c → 2 + 2 * (o + c) ≤ length l
-    → Appended (o ∷ c ∷ (xs ++ ys ++ replicate o 0 ++ replicate c 1)) l 0 l′ j → l′ ≡ written (layout xs ys) l
-unfolding layout
-laid-out xs ys {l} {l′} {j = j} p q h a =
-    let b : Appended (layout xs ys) l 0 l′ j = rw (p, q) a in
-    appended-written b (omega (arith, layout-length xs ys))
+-- sizes, codes and commands, stored one after the other over the whole of the bytes
+pub laid-out : (xs ys : List ℕ) (m k : ℕ) {l l′ : List ℕ} {o c j : ℕ} → length xs ≡ o → length ys ≡ c → length l ≡ 2 + 2 * (o + c)
+    → Appended (o ∷ c ∷ (xs ++ ys ++ replicate m 0 ++ replicate k 1)) l 0 l′ j → m ≡ o → k ≡ c → l′ ≡ layout xs ys
+unfolding layout written
+laid-out xs ys m k {l} {l′} {j = j} p q h a e f =
+    let b : Appended (layout xs ys) l 0 l′ j = rw (p, q) (rw (e, f) at a) in
+    let full : length (layout xs ys) ≡ length l = omega (arith, layout-length xs ys) in
+    appended-written b (omega arith) ∙ rw (full, drop-length l) (append-nil _)

@@ -1,8 +1,8 @@
 -- What writing a command sheet into a lent buffer answers and leaves: refused by 8, or served.
 use mathlib.Core.Path.{_≡_, refl}
-use mathlib.Core.List.{List}
+use mathlib.Core.List.{List, _++_}
 use Prim.Native.Nat.{ℕ, _≤_, _<_}
-use lib.ListN.{length}
+use lib.ListN.{length, drop}
 use borrow.Author.Tests.{lt-ltb, le-ltb}
 use Rattle.model.specs.declared.Outcome.{Outcome}
 use Rattle.model.specs.declared.Outcome.the-variants.{Served, Refused}
@@ -22,6 +22,8 @@ module _ (bytes buffer : List ℕ) where
   unfolding outcomeOf bufferAfter sheetRefusal firstMet tooShort
   write-refused h = rw (lt-ltb (length buffer) (length bytes) h) (refl, (refl, refl))
 
-  pub write-served : length bytes ≤ length buffer → (after : List ℕ) → after ≡ written bytes buffer → Wrote Served after
-  unfolding outcomeOf bufferAfter sheetRefusal firstMet tooShort
-  write-served h after e = rw (le-ltb (length buffer) (length bytes) h) (refl, (refl, e))
+  -- the sheet at the front, and the bytes behind it
+  pub write-served : length bytes ≤ length buffer → (front : List ℕ) (size : ℕ) → front ≡ bytes → size ≡ length bytes
+      → Wrote Served (front ++ drop size buffer)
+  unfolding outcomeOf bufferAfter sheetRefusal firstMet tooShort written
+  write-served h front size e f = rw (le-ltb (length buffer) (length bytes) h, e, f) (refl, (refl, refl))

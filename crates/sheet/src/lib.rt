@@ -1,11 +1,11 @@
 // The command sheet (document 01: order sheet): both phases, and the sheet in a lent buffer.
 ghost use mathlib.Core.Path.{_≡_};
-ghost use Prim.Native.Nat.{_+_, _*_, _≤_};
+ghost use Prim.Native.Nat.{_+_, _-_, _*_, _≤_};
 ghost use lib.ListN.{length, take, replicate};
 ghost use Rattle.model.specs.Lists.{below, anyOf};
 ghost use Rattle.model.specs.Values.{outcomeNumber, outcomeOf};
 ghost use Rattle.model.specs.Reports.{commandsOf};
-ghost use Rattle.model.specs.Sheet.{sheet, written};
+ghost use Rattle.model.specs.Sheet.{sheet};
 ghost use Rattle.model.specs.Refusals.{sheetRefusal};
 ghost use Rattle.model.specs.Answers.{bufferAfter};
 ghost use Rattle.model.specs.Laws.Appended.{Appended};
@@ -139,41 +139,39 @@ fn copy(codes: &[u8; 60], count: usize, buffer: &mut [u8], at: usize) -> usize
     at + count
 }
 
-// Stores a command `times` times from `at` on, and answers the place behind them.
-fn fill(command: u8, times: usize, buffer: &mut [u8], at: usize) -> usize
-    requires room { ⌜ at + times ≤ length (now buffer) ⌝ }
-    ensures stored { λ r. ⌜ Appended (replicate times command) (now (buffer .entry)) at (now (buffer .exit)) r ⌝ }
-    ensures behind { λ r. ⌜ r ≡ at + times ⌝ }
+// Stores a command in each place from `from` to before `to`.
+fn fill(command: u8, from: usize, to: usize, bytes: &mut [u8])
+    requires order { ⌜ from ≤ to ⌝ }
+    requires room { ⌜ to ≤ length (now bytes) ⌝ }
+    ensures { λ r. ⌜ Appended (replicate (to - from) command) (now (bytes .entry)) from (now (bytes .exit)) to ⌝ }
 {
-    for i in 0..times {
-        buffer[at + i] = command;
+    for i in from..to {
+        bytes[i] = command;
     }
-    at + times
 }
 
 // "The order sheet has its sizes first (one byte each: first wave, second wave), then two parallel arrays: the part codes of both
-// waves, then the orders (0 off or open, 1 on or closed)."
-fn lay_out(opening: &[u8; 60], closing: &[u8; 60], counts: Counts, buffer: &mut [u8])
+// waves, then the orders (0 off or open, 1 on or closed)." The bytes lent are the sheet's alone.
+fn lay_out(opening: &[u8; 60], closing: &[u8; 60], counts: Counts, bytes: &mut [u8])
     requires opening_held { ⌜ length (now opening) ≡ 60 ⌝ }
     requires closing_held { ⌜ length (now closing) ≡ 60 ⌝ }
     requires opening_most { ⌜ counts .opening ≤ 60 ⌝ }
     requires closing_most { ⌜ counts .closing ≤ 60 ⌝ }
-    requires room { ⌜ 2 + 2 * (counts .opening + counts .closing) ≤ length (now buffer) ⌝ }
+    requires exact { ⌜ length (now bytes) ≡ 2 + 2 * (counts .opening + counts .closing) ⌝ }
     ensures { λ r. ⌜
-        now (buffer .exit)
-        ≡ written
-        (layout (take (counts .opening) (now (opening .entry))) (take (counts .closing) (now (closing .entry))))
-        (now (buffer .entry))
+        now (bytes .exit) ≡ layout (take (counts .opening) (now (opening .entry))) (take (counts .closing) (now (closing .entry)))
         ⌝ }
 {
     let opened = counts.opening;
     let closed = counts.closing;
-    buffer[0] = opened as u8;
-    buffer[1] = closed as u8;
-    let closing_codes = copy(opening, opened, buffer, 2);
-    let commands = copy(closing, closed, buffer, closing_codes);
-    let closing_commands = fill(0, opened, buffer, commands);
-    fill(1, closed, buffer, closing_commands);
+    bytes[0] = opened as u8;
+    bytes[1] = closed as u8;
+    let closing_codes = copy(opening, opened, bytes, 2);
+    let commands = copy(closing, closed, bytes, closing_codes);
+    let closing_commands = commands + opened;
+    let end = bytes.len();
+    fill(0, commands, closing_commands, bytes);
+    fill(1, closing_commands, end, bytes);
 }
 
 // Writes the sheet that leads from the old commands to the new, unless the buffer is shorter. An inner call: n is at most 20, which
@@ -192,10 +190,14 @@ pub fn write(n: u8, old: Commands, new: Commands, buffer: &mut [u8]) -> Outcome
     let mut opening = [0u8; 60];
     let mut closing = [0u8; 60];
     let counts = phases(n as usize, old, new, &mut opening, &mut closing);
-    // 8: "order buffer shorter than the sheet", "2 + 2k bytes".
-    if buffer.len() < 2 + 2 * (counts.opening + counts.closing) {
+    // "With k orders it is 2 + 2k bytes"
+    let size = 2 + 2 * (counts.opening + counts.closing);
+    let room = buffer.len();
+    // 8: "order buffer shorter than the sheet"
+    if room < size {
         return Outcome::Refused(8);
     }
-    lay_out(&opening, &closing, counts, buffer);
+    // "Bytes of the lent buffer behind the sheet keep their values."
+    lay_out(&opening, &closing, counts, &mut buffer[..size]);
     Outcome::Served
 }

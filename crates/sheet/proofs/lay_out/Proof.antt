@@ -1,6 +1,7 @@
--- `lay_out`: sizes, codes and commands follow one another.
+-- `sheet::lay_out` meets its contract: sizes, codes and commands follow one another.
 use mathlib.Core.Path.{_≡_, refl}
 use mathlib.Core.List.{[], _∷_}
+use Prim.Native.Nat.{_+_, _-_}
 use native.Mathlib.Omega.{arith}
 use denote.Ref.{now}
 use lib.ListN.{length, set, take, length-set}
@@ -24,9 +25,15 @@ third d = d .before .before .before .before
 abbrev last : tie.After-fill2 → tie.After-fill
 last d = d .before .before .before .before
 
--- the sizes and the first codes leave the buffer as long as it was
-sized : (d : tie.After-copy) → length (d .copy .last .1 .1 .0) ≡ length (now (first d .args .buffer))
+-- the sizes and the first codes leave the bytes as many as they were
+sized : (d : tie.After-copy) → length (d .copy .last .1 .1 .0) ≡ length (now (first d .args .bytes))
 sized d = simp length-set at (d .copy .kept .1 .1 .0)
+
+slice-write-bytes-2 : tie.Need-slice-write-bytes-2
+slice-write-bytes-2 c = simp length-set (omega arith)
+
+copy-requires : tie.Need-copy-requires
+copy-requires c κs = simp length-set (omega arith)
 
 copy-requires-2 : tie.Need-copy-requires-2
 copy-requires-2 c κs = let d = c .before .before .before in omega (arith, sized d, d)
@@ -50,13 +57,31 @@ returns c =
     let a = s .args in
     let o = a .counts .opening in
     let k = a .counts .closing in
-    let sizes : Appended (o ∷ k ∷ []) (now (a .buffer)) 0 (set (set (now (a .buffer)) 0 o) 1 k) 2 = record { stored = refl; end = refl } in
-    laid-out (take o (now (a .opening))) (take k (now (a .closing))) (length-take-le o (now (a .opening)) (omega (arith, s .pre)))
-    (length-take-le k (now (a .closing)) (omega (arith, s .pre))) (omega (arith, s .pre))
-    (appended-more (appended-more (appended-more (appended-more sizes (d .copy .ensures .0)) (e .copy2 .ensures .0)) (f .fill .ensures .0)) (g .fill2 .ensures .0))
+    let sizes : Appended (o ∷ k ∷ []) (now (a .bytes)) 0 (set (set (now (a .bytes)) 0 o) 1 k) 2 = record { stored = refl; end = refl } in
+    let commands = e .copy2 .result in
+    let end = length (e .copy2 .last .1 .1 .0) in
+    laid-out (take o (now (a .opening))) (take k (now (a .closing))) (commands + o - commands) (end - (commands + o))
+    (length-take-le o (now (a .opening)) (omega (arith, s .pre)))
+    (length-take-le k (now (a .closing)) (omega (arith, s .pre)))
+    (omega (arith, s .pre))
+    (appended-more
+    (appended-more (appended-more (appended-more sizes (d .copy .ensures .0)) (e .copy2 .ensures .0)) (f .fill .ensures))
+    (g .fill2 .ensures))
+    (omega (arith, sized d, d, e))
+    (omega (arith, sized d, d, e))
 
 pub lay-out-spec : {M : Type 1} → statement M
 lay-out-spec =
     tie.close
-    (tie.spec (λ c. search needs) (λ c. search needs) (λ c. search needs) (λ c. simp length-set (omega arith)) (λ c κs. simp length-set (omega arith))
-    copy-requires-2 fill-requires fill-requires-2 same-length returns)
+    (tie.spec
+    (λ c. search needs)
+    (λ c. search needs)
+    (λ c. search needs)
+    slice-write-bytes-2
+    copy-requires
+    copy-requires-2
+    (λ c. search needs)
+    fill-requires
+    fill-requires-2
+    same-length
+    returns)

@@ -5,8 +5,9 @@ use Prim.Native.Nat.{ℕ, _+_, _*_, _≤_}
 use native.Mathlib.Omega.{arith}
 use denote.Ref.{now}
 use lib.ListN.{length, take}
+use lib.Seq.{length-take-le}
 use borrow.Author.Needs.{needs}
-use Rattle.model.specs.Sheet.{sheet, written}
+use Rattle.model.specs.Sheet.{sheet}
 use Rattle.model.specs.Reports.{commandsOf}
 use Rattle.model.specs.Laws.Tests.{facts}
 use Rattle.model.specs.Laws.Sheet.{sheet-fits}
@@ -44,17 +45,26 @@ made d =
     let k : length (closingCodes (a .n) (a .old) (a .new)) ≤ 60 = omega (arith, counted d, d .phases .ensures) in
     rw (appended-front (d .phases .ensures .0) o, appended-front (d .phases .ensures .1) k) (sym (sheet-layout (a .n) (a .old) (a .new)))
 
-add-if1 : tie.Need-add-if1
-add-if1 c = omega (arith, counted (c .before))
+add-size : tie.Need-add-size
+add-size c = omega (arith, counted (c .before))
 
-mul-if1 : tie.Need-mul-if1
-mul-if1 c = omega (arith, counted (c .before))
+mul-size : tie.Need-mul-size
+mul-size c = omega (arith, counted (c .before))
 
-add-if1-2 : tie.Need-add-if1-2
-add-if1-2 c = omega (arith, counted (c .before))
+add-size-2 : tie.Need-add-size-2
+add-size-2 c = omega (arith, counted (c .before))
 
 returns : tie.Need-returns
 returns c = let d = c .before .before in write-refused _ _ (omega (arith, facts, counted d))
+
+-- the part lent is as long as the sheet
+lent : (d : tie.After-phases) → length (bytes d) ≤ length (now (start d .args .buffer))
+    → length (take (2 + 2 * (d .phases .result .opening + d .phases .result .closing)) (now (start d .args .buffer)))
+    ≡ 2 + 2 * (d .phases .result .opening + d .phases .result .closing)
+lent d h = length-take-le _ (now (start d .args .buffer)) (omega (arith, counted d))
+
+slice-aggregate-lay-out : tie.Need-slice-aggregate-lay-out
+slice-aggregate-lay-out c = let d = c .before .before .before .before .before in sym (lent d (omega (arith, facts, counted d)))
 
 lay-out-requires : tie.Need-lay-out-requires
 lay-out-requires c κs =
@@ -62,25 +72,27 @@ lay-out-requires c κs =
       appended-length (d .phases .ensures .0),
       (
         appended-length (d .phases .ensures .1),
-        (omega (arith, counted d), (omega (arith, counted d), omega (arith, facts, counted d))),
+        (omega (arith, counted d), (omega (arith, counted d), lent d (omega (arith, facts, counted d)))),
       ),
     )
 
 returns-2 : tie.Need-returns-2
 returns-2 c =
     let d = c .before .before .before .before .before .before .before .before in
-    write-served (bytes d) (now (start d .args .buffer)) (omega (arith, facts, counted d)) _
-    (c .before .before .lay-out .ensures ∙ ap (λ l. written l (now (start d .args .buffer))) (made d))
+    write-served (bytes d) (now (start d .args .buffer)) (omega (arith, facts, counted d)) _ _
+    (c .before .before .lay-out .ensures ∙ made d) (sym (counted d .0))
 
 pub write-spec : {M : Type 1} → statement M
 write-spec =
     tie.close
     (tie.spec
     (λ c κs. search needs)
-    add-if1
-    mul-if1
-    add-if1-2
+    add-size
+    mul-size
+    add-size-2
     returns
+    (λ c. search needs)
+    slice-aggregate-lay-out
     lay-out-requires
     (λ c. search needs)
     returns-2)
