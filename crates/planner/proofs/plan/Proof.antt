@@ -10,7 +10,8 @@ use Rattle.planner.proofs.plan.Statement.{statement}
 use Rattle.planner.proofs.plan.Tie as tie
 
 abbrev Inv-loop : tie.InvT-loop
-Inv-loop n health size usable choices₀ progress₀ b₀ choices progress b = (b ≤ n) × (progress ≡ served n (healthOf health) b) × (choices ≡ choicesTo n (healthOf health) b)
+Inv-loop n health size usable choices₀ progress₀ b₀ choices progress b =
+    (b ≤ n) × (progress ≡ served n (healthOf health) b) × (choices ≡ choicesTo n (healthOf health) b)
 
 abbrev μ-loop : tie.MeasureT-loop
 μ-loop n health size usable choices₀ progress₀ b₀ choices progress b = n - b

@@ -17,11 +17,15 @@ high-rises-requires c κs = search auto
 
 returns-2 : tie.Need-returns-2
 unfolding choiceOf
-returns-2 c = rw (ne-eqb _ _ (c .before .before .if1 .left), c .before .before .before .number-of .ensures, ← c .before .high-rises .ensures, c .if2 .taken)
+returns-2 c =
+    let d = c .before .before in
+    rw (ne-eqb _ _ (d .if1 .left), d .before .number-of .ensures, ← c .before .high-rises .ensures, c .if2 .taken)
 
 returns-3 : tie.Need-returns-3
 unfolding choiceOf
-returns-3 c = rw (ne-eqb _ _ (c .before .before .if1 .left), c .before .before .before .number-of .ensures, ← c .before .high-rises .ensures, c .if2 .left)
+returns-3 c =
+    let d = c .before .before in
+    rw (ne-eqb _ _ (d .if1 .left), d .before .number-of .ensures, ← c .before .high-rises .ensures, c .if2 .left)
 
 pub named-spec : {M : Type 1} → statement M
 named-spec = tie.close (tie.spec number-of-requires returns high-rises-requires returns-2 returns-3)

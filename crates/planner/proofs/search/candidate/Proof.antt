@@ -28,7 +28,9 @@ returns c =
     rw (e .before .if1 .taken, ← e .number-of .ensures, ← d .free .ensures, c .before .before .if2 .taken) (c .free2 .ensures)
 
 returns-2 : tie.Need-returns-2
-returns-2 c = let e = c .before .before .before in rw (e .before .if1 .taken, ← e .number-of .ensures, ← c .before .free .ensures, c .if2 .left)
+returns-2 c =
+    let e = c .before .before .before in
+    rw (e .before .if1 .taken, ← e .number-of .ensures, ← c .before .free .ensures, c .if2 .left)
 
 returns-3 : tie.Need-returns-3
 returns-3 c = rw (c .if1 .left)

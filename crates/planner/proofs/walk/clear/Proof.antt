@@ -26,7 +26,8 @@ returns : tie.Need-returns Inv-loop μ-loop
 returns c =
     let q = c .before .before .before in
     let a = q .before .args in
-    sym (q .loop .inv .1 ∙ clear-open (a .n) (at (a .breakers .now)) (at (a .owners .now)) (a .number) (q .loop .k) (q .loop .left) (c .before .before .loop-test .taken) (eq-eqb _ _ (c .if1 .taken)))
+    sym (q .loop .inv .1 ∙ clear-open (a .n) (at (a .breakers .now)) (at (a .owners .now)) (a .number) (q .loop .k) (q .loop .left)
+    (c .before .before .loop-test .taken) (eq-eqb _ _ (c .if1 .taken)))
 
 element-copy-out-free : tie.Need-element-copy-out-free Inv-loop μ-loop
 element-copy-out-free c = search auto
@@ -39,7 +40,8 @@ returns-2 c =
     let d = c .before .before .before in
     let q = d .before .before .before in
     let a = q .before .args in
-    sym (q .loop .inv .1 ∙ clear-met (a .n) (at (a .breakers .now)) (at (a .owners .now)) (a .number) (q .loop .k) (q .loop .left) (d .before .before .loop-test .taken) (ne-eqb _ _ (d .if1 .left)) (sym (c .before .free .ensures) ∙ not-true _ (c .if2 .taken)))
+    sym (q .loop .inv .1 ∙ clear-met (a .n) (at (a .breakers .now)) (at (a .owners .now)) (a .number) (q .loop .k) (q .loop .left)
+    (d .before .before .loop-test .taken) (ne-eqb _ _ (d .if1 .left)) (sym (c .before .free .ensures) ∙ not-true _ (c .if2 .taken)))
 
 next-requires : tie.Need-next-requires Inv-loop μ-loop
 next-requires c κs = search auto
@@ -58,7 +60,9 @@ loop-again c =
     rw (c .next .ensures) (
       next-lt (a .n) (q .loop .k) (q .loop .inv .0),
       q .loop .inv .1
-          ∙ clear-step (a .n) (at (a .breakers .now)) (at (a .owners .now)) (a .number) (q .loop .k) (q .loop .left) (d .before .before .loop-test .taken) (ne-eqb _ _ (d .if1 .left)) (sym (c .before .before .free .ensures) ∙ not-false _ (c .before .if2 .left)),
+          ∙ clear-step (a .n) (at (a .breakers .now)) (at (a .owners .now)) (a .number) (q .loop .k) (q .loop .left)
+          (d .before .before .loop-test .taken) (ne-eqb _ _ (d .if1 .left))
+          (sym (c .before .before .free .ensures) ∙ not-false _ (c .before .if2 .left)),
     )
 
 element-copy-out-free-2 : tie.Need-element-copy-out-free-2 Inv-loop μ-loop
@@ -72,7 +76,8 @@ returns-3 c =
     let q = c .before .before .before in
     let a = q .before .args in
     c .free2 .ensures
-    ∙ sym (q .loop .inv .1 ∙ clear-end (a .n) (at (a .breakers .now)) (at (a .owners .now)) (a .number) (q .loop .k) (q .loop .left) (c .before .before .loop-test .left))
+    ∙ sym (q .loop .inv .1 ∙ clear-end (a .n) (at (a .breakers .now)) (at (a .owners .now)) (a .number) (q .loop .k) (q .loop .left)
+    (c .before .before .loop-test .left))
 
 pub clear-spec : {M : Type 1} → statement M
 clear-spec =

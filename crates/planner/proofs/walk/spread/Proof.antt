@@ -13,7 +13,8 @@ use Rattle.planner.specs.Walk.{closedBy, reach, breaker-lt, bus-lt, reac
 
 abbrev Inv-loop : tie.InvT-loop
 Inv-loop n breakers closed b number rising o₀ k₀ done₀ o k done =
-    (k < n) × (setAll number (reach n (closedBy (at breakers) closed) rising b n) o₀ ≡ setAll number (reach n (closedBy (at breakers) closed) rising k (n - done)) o) ×
+    (k < n) × (setAll number (reach n (closedBy (at breakers) closed) rising b n) o₀
+    ≡ setAll number (reach n (closedBy (at breakers) closed) rising k (n - done)) o) ×
     (length o ≡ 20)
 
 abbrev μ-loop : tie.MeasureT-loop
@@ -47,7 +48,8 @@ returns c =
     let q = d .before .before in
     let a = q .before .args in
     let e = rw (d .breaker-beside .ensures) at (sym (c .before .counted-closed .ensures) ∙ not-true _ (c .if1 .taken)) in
-    sym (q .loop .inv .1 ∙ reach-stop (a .number) (a .n) (q .loop .k) (a .n) (q .loop .done) (q .loop .o) (closedBy (at (a .breakers .now)) (a .closed .now)) (a .rising) (d .before .loop-test .taken) e)
+    sym (q .loop .inv .1 ∙ reach-stop (a .number) (a .n) (q .loop .k) (a .n) (q .loop .done) (q .loop .o)
+    (closedBy (at (a .breakers .now)) (a .closed .now)) (a .rising) (d .before .loop-test .taken) e)
 
 bus-beside-requires : tie.Need-bus-beside-requires Inv-loop μ-loop
 bus-beside-requires c κs = search auto
@@ -67,7 +69,8 @@ loop-again c =
     rw (c .bus-beside .ensures) (
       bus-lt (a .n) (a .rising) (q .loop .k) (q .loop .inv .0),
       q .loop .inv .1
-          ∙ reach-step (a .number) (a .n) (q .loop .k) (a .n) (q .loop .done) (q .loop .o) (closedBy (at (a .breakers .now)) (a .closed .now)) (a .rising) (d .before .loop-test .taken) e,
+          ∙ reach-step (a .number) (a .n) (q .loop .k) (a .n) (q .loop .done) (q .loop .o)
+          (closedBy (at (a .breakers .now)) (a .closed .now)) (a .rising) (d .before .loop-test .taken) e,
       length-set (q .loop .o) (q .loop .k) (a .number) ∙ q .loop .inv .2,
     )
 
@@ -75,7 +78,8 @@ returns-2 : tie.Need-returns-2 Inv-loop μ-loop
 returns-2 c =
     let q = c .before in
     let a = q .before .args in
-    sym (q .loop .inv .1 ∙ reach-end (a .number) (a .n) (q .loop .k) (a .n) (q .loop .done) (q .loop .o) (closedBy (at (a .breakers .now)) (a .closed .now)) (a .rising) (c .loop-test .left))
+    sym (q .loop .inv .1 ∙ reach-end (a .number) (a .n) (q .loop .k) (a .n) (q .loop .done) (q .loop .o)
+    (closedBy (at (a .breakers .now)) (a .closed .now)) (a .rising) (c .loop-test .left))
 
 pub spread-spec : {M : Type 1} → statement M
 spread-spec =
