@@ -1,4 +1,5 @@
 // What is kept from bus to bus while they are served: "Buses are served in number order."
+// Buses and generators are indices from 0; an owner and a choice have a generator's number, from 1.
 ghost use mathlib.Core.Path.{_≡_};
 ghost use mathlib.Core.Option.{some};
 ghost use Prim.Native.Nat.{_+_, _≤_, _<_};

@@ -1,4 +1,5 @@
 // The search for a bus's path: "The search over generators and their two ways ends at the first permitted way."
+// Buses, generators and bus breakers are indices from 0; an owner is a generator's number, from 1, or 0 where there is none.
 ghost use mathlib.Core.Path.{_≡_};
 ghost use Prim.Native.Nat.{_≤_, _<_};
 ghost use Rattle.model.specs.Lists.{first};
