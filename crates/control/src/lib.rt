@@ -66,10 +66,10 @@ fn differ(standing: Commands, planned: Commands) -> bool
 fn bad_record(ring: Ring) -> bool
     ensures { λ r. ⌜ r ≡ badRecord ring ⌝ }
 {
-    if plant::size_outside(ring.n) {
+    if components::size_outside(ring.n) {
         return true;
     }
-    if plant::health_outside(20, ring.health) {
+    if components::health_outside(20, ring.health) {
         return true;
     }
     if active_above(ring.n as usize, ring.health, ring.commands) {
@@ -86,7 +86,7 @@ pub fn start(n: u8, buffer: &mut [u8]) -> RingAnswer
     ensures bytes { λ r. ⌜ now (buffer .exit) ≡ startReply n (now (buffer .entry)) .buffer ⌝ }
     ensures number { λ r. ⌜ outcomeNumber (r .outcome) ≡ startRefusal n (length (now (buffer .entry))) ⌝ }
 {
-    if plant::size_outside(n) {
+    if components::size_outside(n) {
         return transition::refused(2, transition::blank(0));
     }
     transition::start(n, buffer)

@@ -20,7 +20,6 @@ ghost use Rattle.planner.specs.Progress.{served, closedBy, taken, darken
 use model::BusChoice;
 use model::Choice;
 use model::Commands;
-use model::FIT;
 use model::Health;
 use model::STUCK_CLOSED;
 use model::STUCK_OPEN;
@@ -173,7 +172,7 @@ fn clear(
         if !free(owners[k], number) {
             return false;
         }
-        k = geometry::next(n, k);
+        k = components::next(n, k);
         left -= 1;
     }
     free(owners[k], number)
@@ -243,7 +242,7 @@ fn close(n: usize, closed: [bool; 20], from: usize, steps: usize) -> [bool; 20]
     let mut done = 0;
     while done < steps {
         c[k] = true;
-        k = geometry::next(n, k);
+        k = components::next(n, k);
         done += 1;
     }
     c
@@ -273,7 +272,7 @@ fn bus_beside(n: usize, k: usize, rising: bool) -> usize
     ensures { λ r. ⌜ r ≡ busBeside n rising k ⌝ }
 {
     if rising {
-        geometry::next(n, k)
+        components::next(n, k)
     } else {
         previous(n, k)
     }
@@ -380,11 +379,11 @@ fn serve(n: usize, health: Health, usable: [bool; 20], s: Progress, b: usize) ->
     }
 }
 
-// Whether a generator may feed: it is fit, and its breaker is not stuck open. The one place where a generator is judged.
+// Whether a generator may feed: it is fit, and its breaker is not stuck open.
 fn may_feed(generator: u8, breaker: u8) -> bool
     ensures { λ r. ⌜ r ≡ fit generator && not (stuckOpen breaker) ⌝ }
 {
-    if generator == FIT {
+    if components::fit_generator(generator) {
         return breaker != STUCK_OPEN;
     }
     false

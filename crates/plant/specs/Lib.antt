@@ -1,5 +1,4 @@
 pub mod Walk
-pub mod Kinds
 pub mod Feeders
 pub mod Buses
 pub mod Answer

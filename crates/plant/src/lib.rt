@@ -15,27 +15,18 @@ ghost use Rattle.plant.specs.Buses.{darkBuses, feedsBelow};
 ghost use Rattle.plant.specs.Answer.{refusedAnswer, sourcesNamed};
 use model::BusFeed;
 use model::Commands;
-use model::FIT;
 use model::Feed;
 use model::FeedsAnswer;
 use model::Health;
 use model::Outcome;
 use model::STUCK_CLOSED;
-use model::STUCK_OFF;
 use model::STUCK_OPEN;
-
-// Whether a generator of this health is fit: fitness is judged here alone.
-fn is_fit(health: u8) -> bool
-    ensures { λ r. ⌜ r ≡ fit health ⌝ }
-{
-    health == FIT
-}
 
 // "A generator is running when it is fit and ordered on"
 fn is_running(health: u8, command: bool) -> bool
     ensures { λ r. ⌜ r ≡ fit health && command ⌝ }
 {
-    is_fit(health) && command
+    components::fit_generator(health) && command
 }
 
 // "A fit part does what it was last ordered; a stuck part ignores orders.": whether a breaker is closed is judged here
@@ -56,7 +47,7 @@ fn arc_closed(n: usize, health: Health, commands: Commands, a: usize, b: usize) 
         if !is_closed(health.bus_breakers[i], commands.bus_breakers[i]) {
             return false;
         }
-        i = geometry::next(n, i);
+        i = components::next(n, i);
     }
     true
 }
@@ -126,46 +117,6 @@ fn bus_feeds(n: usize, health: Health, commands: Commands) -> [BusFeed; 20]
     buses
 }
 
-// "A generator is fit or stuck off."
-fn generator_health(health: u8) -> bool
-    ensures { λ r. ⌜ r ≡ fit health || stuckOff health ⌝ }
-{
-    health == FIT || health == STUCK_OFF
-}
-
-// "A breaker is fit, stuck open or stuck closed."
-fn breaker_health(health: u8) -> bool
-    ensures { λ r. ⌜ r ≡ fit health || stuckOpen health || stuckClosed health ⌝ }
-{
-    health == FIT || (health == STUCK_OPEN || health == STUCK_CLOSED)
-}
-
-// 9 "only for a part up to n whose health is not one of its kind". An inner call: n is at most 20, which its callers have checked.
-pub fn health_outside(n: usize, health: Health) -> bool
-    requires { ⌜ n ≤ 20 ⌝ }
-    ensures { λ r. ⌜ r ≡ healthOutside (healthOf health) (parts n) ⌝ }
-{
-    for i in 0..n {
-        if !generator_health(health.generators[i]) {
-            return true;
-        }
-        if !breaker_health(health.generator_breakers[i]) {
-            return true;
-        }
-        if !breaker_health(health.bus_breakers[i]) {
-            return true;
-        }
-    }
-    false
-}
-
-// 2: "n below 3 or above 20"
-pub fn size_outside(n: u8) -> bool
-    ensures { λ r. ⌜ r ≡ sizeOutside n ⌝ }
-{
-    n < 3 || 20 < n
-}
-
 // "Each has its number as the answer"; "the buses of a refused reckoning are all dark"
 fn refused(number: u8) -> FeedsAnswer
     ensures { λ r. ⌜ r ≡ refusedAnswer number ⌝ }
@@ -182,11 +133,11 @@ pub fn feeds(n: u8, health: Health, commands: Commands) -> FeedsAnswer
     ensures { λ r. ⌜ outcomeNumber (r .outcome) ≡ feedsRefusal n (healthOf health) ⌝ }
     ensures { λ r. ⌜ map (λ bus. feedSources (bus .feed)) (r .buses) ≡ places (sourcesNamed n health commands) ⌝ }
 {
-    if size_outside(n) {
+    if components::size_outside(n) {
         return refused(2);
     }
     let size = n as usize;
-    if health_outside(size, health) {
+    if components::health_outside(size, health) {
         return refused(9);
     }
     FeedsAnswer {

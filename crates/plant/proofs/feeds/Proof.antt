@@ -13,7 +13,7 @@ feeds-spec =
     (λ c κs. search needs)
     (λ c κs. search needs)
     (λ c. answered _ _ _ _ (c .refused .ensures ∙ size-refused _ _ _ (sym (c .before .before .size-outside .ensures) ∙ c .before .if1 .taken)))
-    (λ c κs. size-bounds _ (sym (c .before .size-outside .ensures) ∙ c .if1 .left) .1)
+    (λ c κs. search needs)
     (λ c κs. search needs)
     (λ c.
     let d = c .before .before .before in

@@ -8,5 +8,5 @@ is-running-spec =
     tie.close
     (tie.spec
     (λ c κs. search needs)
-    (λ c. rw (← c .before .is-fit .ensures, c .if1 .taken))
-    (λ c. rw (← c .before .is-fit .ensures, c .if1 .left)))
+    (λ c. rw (← c .before .fit-generator .ensures, c .if1 .taken))
+    (λ c. rw (← c .before .fit-generator .ensures, c .if1 .left)))

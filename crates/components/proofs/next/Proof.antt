@@ -1,12 +1,12 @@
--- `geometry::next` meets its contract.
+-- `components::next` meets its contract.
 use Prim.Native.Nat.{_+_}
 use native.Mathlib.Numerals.{add-one}
 use native.Mathlib.Omega.{arith}
 use borrow.Author.Needs.{needs}
 use borrow.Author.Tests.{eq-eqb, ne-eqb}
 use Rattle.model.specs.Plant.{next}
-use Rattle.geometry.proofs.next.Statement.{statement}
-use Rattle.geometry.proofs.next.Tie as tie
+use Rattle.components.proofs.next.Statement.{statement}
+use Rattle.components.proofs.next.Tie as tie
 
 returns : tie.Need-returns
 unfolding next
