@@ -1,15 +1,12 @@
--- `components::fit_generator` meets its contract: its test and the definition's follow from each other.
-use mathlib.Core.Path.{_≡_}
+-- `components::fit_generator` meets its contract.
 use native.Mathlib.Omega.{arith}
-use borrow.Author.Tests.{eqb-true, eq-eqb}
-use Rattle.model.specs.Laws.Tests.{iff}
+use Rattle.model.specs.Laws.Tests.{facts}
+use Rattle.components.specs.Tests.{same-test}
 use Rattle.components.proofs.fit_generator.Statement.{statement}
 use Rattle.components.proofs.fit_generator.Tie as tie
 
 returns : tie.Need-returns
-returns c =
-    let h = c .args .generator in
-    iff _ _ (λ e. eq-eqb h 0 (omega (arith, eqb-true))) (λ e. let z : h ≡ 0 = omega (arith, eqb-true) in rw z)
+returns c = same-test (c .args .generator) 0 _ (λ l e. omega (arith, facts)) (λ l e. omega (arith, facts))
 
 pub fit-generator-spec : {M : Type 1} → statement M
 fit-generator-spec = tie.close (tie.spec returns)

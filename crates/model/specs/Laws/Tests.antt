@@ -5,8 +5,9 @@ use mathlib.Core.Logic.{_≢_, _⊎_, inl, inr}
 use Prim.Native.Nat.{ℕ, _+_, _≤_, _<_}
 use native.Mathlib.Omega.{arith}
 use native.Mathlib.Decide.{ℕ-discrete}
-use lib.Dec.{ltb}
-use borrow.Author.Tests.{ltb-true, ltb-false, lt-ltb, le-ltb, le-leb, lt-leb, eq-eqb, ne-eqb}
+use lib.Dec.{ltb, leb, eqb}
+use borrow.Author.Tests.{ltb-true, ltb-false, leb-true, leb-false, eqb-true, eqb-false, not-true, not-false}
+use borrow.Author.Tests.{lt-ltb, le-ltb, le-leb, lt-leb, eq-eqb, ne-eqb}
 
 pub contra : {A : Type 0} {b : Bool} → b ≡ true → b ≡ false → A
 contra {b = b} p q = let z : _≡_ {A = ℕ} 0 1 = cc in absurd (omega arith)
@@ -76,6 +77,36 @@ cond-ext false z e = refl
 
 -- the tests of a path through the code, for `search tests`
 pub ruleset tests = (lt-ltb, le-ltb, le-leb, lt-leb, eq-eqb, ne-eqb)
+
+-- a test that both holds and fails, as numbers for `omega`
+pub true-false : true ≡ false → 1 ≤ 0
+true-false e = contra refl e
+
+pub false-true : false ≡ true → 1 ≤ 0
+false-true e = contra e refl
+
+-- a negated test
+module _ (a b : ℕ) where
+  pub not-less : not (ltb a b) ≡ true → b ≤ a
+  not-less e = ltb-false a b (not-true _ e)
+
+  pub less-not : not (ltb a b) ≡ false → a < b
+  less-not e = ltb-true a b (not-false _ e)
+
+  pub not-most : not (leb a b) ≡ true → b < a
+  not-most e = leb-false a b (not-true _ e)
+
+  pub most-not : not (leb a b) ≡ false → a ≤ b
+  most-not e = leb-true a b (not-false _ e)
+
+  pub not-same : not (eqb a b) ≡ true → a ≡ b → ⊥
+  not-same e = eqb-false a b (not-true _ e)
+
+  pub same-not : not (eqb a b) ≡ false → a ≡ b
+  same-not e = eqb-true a b (not-false _ e)
+
+-- what the outcome of a test says of its numbers, for `omega`: however the test is worded
+pub ruleset facts = (ltb-true, ltb-false, leb-true, leb-false, eqb-true, eqb-false, not-less, less-not, not-most, most-not, not-same, same-not, true-false, false-true)
 
 -- one index more below a bound: what is picked at another index stays, and at that index it is the first
 module _ {A : Type 0} (x y : A) where

@@ -1,0 +1,79 @@
+-- What a function that tests numbers has to show, by cases of the numbers: however the code words its test.
+use mathlib.Core.Path.{_≡_, sym, _∙_}
+use mathlib.Core.Bool.{Bool, true, false, not, _&&_, _||_, or-assoc}
+use mathlib.Core.Logic.{_⊎_, inl, inr, _≢_}
+use Prim.Native.Nat.{ℕ, _+_, _≤_, _<_}
+use native.Mathlib.Numerals.{add-one}
+use lib.Dec.{eqb}
+use borrow.Author.Tests.{eq-eqb, ne-eqb}
+use Rattle.model.specs.Plant.{smallest, largest, next, fit, stuckOff, stuckOpen, stuckClosed}
+use Rattle.model.specs.Refusals.{sizeOutside}
+use Rattle.model.specs.Laws.Tests.{dec, dec-lt, dec-eq}
+use Rattle.model.specs.Laws.Refusals.{outside, inside}
+
+-- the answer r is not false, or not true
+is-true : (r : Bool) → (r ≡ false → ⊥) → r ≡ true
+is-true r h = go (dec r)
+  where
+    go : (r ≡ true) ⊎ (r ≡ false) → r ≡ true
+    go (inl e) = e
+    go (inr e) = absurd (h e)
+
+is-false : (r : Bool) → (r ≡ true → ⊥) → r ≡ false
+is-false r h = go (dec r)
+  where
+    go : (r ≡ true) ⊎ (r ≡ false) → r ≡ false
+    go (inl e) = absurd (h e)
+    go (inr e) = e
+
+-- a is b; or else a test t; and not b, together with a test t
+module _ (a b : ℕ) where
+  pub same-test : (r : Bool) → (a ≡ b → r ≡ false → ⊥) → (a ≢ b → r ≡ true → ⊥) → r ≡ eqb a b
+  same-test r p q = go (dec-eq a b)
+    where
+      go : (a ≡ b) ⊎ (a ≢ b) → r ≡ eqb a b
+      go (inl e) = rw (eq-eqb a b e) (is-true r (p e))
+      go (inr e) = rw (ne-eqb a b e) (is-false r (q e))
+
+  pub or-test : (t r : Bool) → (a ≡ b → r ≡ false → ⊥) → (a ≢ b → r ≡ t) → r ≡ eqb a b || t
+  or-test t r p q = go (dec-eq a b)
+    where
+      go : (a ≡ b) ⊎ (a ≢ b) → r ≡ eqb a b || t
+      go (inl e) = rw (eq-eqb a b e) (is-true r (p e))
+      go (inr e) = rw (ne-eqb a b e) (q e)
+
+  pub unless-test : (t r : Bool) → (a ≡ b → r ≡ true → ⊥) → (a ≢ b → r ≡ t) → r ≡ not (eqb a b) && t
+  unless-test t r p q = go (dec-eq a b)
+    where
+      go : (a ≡ b) ⊎ (a ≢ b) → r ≡ not (eqb a b) && t
+      go (inl e) = rw (eq-eqb a b e) (is-false r (p e))
+      go (inr e) = rw (ne-eqb a b e) (q e)
+
+-- "BBn joins Bn and B1": the bus after another
+pub next-test : (n k r : ℕ) → (k + 1 ≢ n → r ≡ k + 1) → (k + 1 ≡ n → r ≡ 0) → r ≡ next n k
+unfolding next
+next-test n k r p q = go (dec-eq (k + 1) n)
+  where
+    go : (k + 1 ≡ n) ⊎ (k + 1 ≢ n) → r ≡ next n k
+    go (inl e) = rw (← add-one k, eq-eqb (k + 1) n e) (q e)
+    go (inr e) = rw (← add-one k, ne-eqb (k + 1) n e) (p e)
+
+-- 2: "n below 3 or above 20"
+module _ (n : ℕ) (r : Bool) where
+  pub size-test : (n < smallest → r ≡ false → ⊥) → (largest < n → r ≡ false → ⊥) → (smallest ≤ n → n ≤ largest → r ≡ true → ⊥) → r ≡ sizeOutside n
+  size-test low high within = go (dec-lt n smallest) (dec-lt largest n)
+    where
+      go : (n < smallest) ⊎ (smallest ≤ n) → (largest < n) ⊎ (n ≤ largest) → r ≡ sizeOutside n
+      go (inl l) m = rw (outside n (inl l)) (is-true r (low l))
+      go (inr l) (inl m) = rw (outside n (inr m)) (is-true r (high m))
+      go (inr l) (inr m) = rw (inside n l m) (is-false r (within l m))
+
+-- "A generator is fit or stuck off.", "A breaker is fit, stuck open or stuck closed."
+module _ (h : ℕ) (r : Bool) where
+  pub generator-test : (h ≡ 0 → r ≡ false → ⊥) → (h ≡ 1 → r ≡ false → ⊥) → (h ≢ 0 → h ≢ 1 → r ≡ true → ⊥) → r ≡ fit h || stuckOff h
+  generator-test p q none = or-test h 0 _ r p (λ l. same-test h 1 r q (none l))
+
+  pub breaker-test : (h ≡ 0 → r ≡ false → ⊥) → (h ≡ 2 → r ≡ false → ⊥) → (h ≡ 3 → r ≡ false → ⊥) → (h ≢ 0 → h ≢ 2 → h ≢ 3 → r ≡ true → ⊥)
+      → r ≡ fit h || stuckOpen h || stuckClosed h
+  breaker-test p q s none =
+      or-test h 0 _ r p (λ l. or-test h 2 _ r q (λ m. same-test h 3 r s (none l m))) ∙ sym (or-assoc (fit h) (stuckOpen h) (stuckClosed h))
