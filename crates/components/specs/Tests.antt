@@ -12,14 +12,14 @@ use Rattle.model.specs.Laws.Tests.{contra, dec, dec-lt, dec-eq}
 use Rattle.model.specs.Laws.Refusals.{outside, inside}
 
 -- the answer r is not false, or not true
-is-true : (r : Bool) → (r ≡ false → ⊥) → r ≡ true
+pub is-true : (r : Bool) → (r ≡ false → ⊥) → r ≡ true
 is-true r h = go (dec r)
   where
     go : (r ≡ true) ⊎ (r ≡ false) → r ≡ true
     go (inl e) = e
     go (inr e) = absurd (h e)
 
-is-false : (r : Bool) → (r ≡ true → ⊥) → r ≡ false
+pub is-false : (r : Bool) → (r ≡ true → ⊥) → r ≡ false
 is-false r h = go (dec r)
   where
     go : (r ≡ true) ⊎ (r ≡ false) → r ≡ false
