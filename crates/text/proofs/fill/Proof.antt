@@ -34,7 +34,7 @@ add-length c =
     let d = c .before .before .before .before .before .before .before .before in
     let start = d .before .before .before in
     let taken = c .before .before .before .before .before .before .before .loop-test .taken in
-    let more = filling-more (d .loop .inv .0) taken (c .before .before .before .before .next-line .ensures) in
+    let more = filling-more _ (d .loop .inv .0) taken (c .before .before .before .before .next-line .ensures) refl in
     search (needs, start .good, stored-fits (more .stored))
 
 loop-less : tie.Need-loop-less Inv-loop μ-loop
@@ -45,11 +45,9 @@ loop-less c =
 
 loop-again : tie.Need-loop-again Inv-loop μ-loop
 loop-again c =
-    let d = c .before .before .before .before .before .before .before .before in (
-      filling-more (d .loop .inv .0) (c .before .before .before .before .before .before .before .loop-test .taken)
-          (c .before .before .before .before .next-line .ensures),
-      search needs,
-    )
+    let d = c .before .before .before .before .before .before .before .before in
+    let taken = c .before .before .before .before .before .before .before .loop-test .taken in
+    (filling-more _ (d .loop .inv .0) taken (c .before .before .before .before .next-line .ensures) (omega arith), search needs)
 
 returns : tie.Need-returns Inv-loop μ-loop
 returns c =

@@ -6,6 +6,7 @@ use denote.Ref.{now}
 use lib.ListN.{length}
 use borrow.Author.Needs.{needs}
 use Rattle.model.specs.Reports.{fileCount}
+use Rattle.text.specs.Lines.{same-line}
 use Rattle.text.specs.Run.{Served, file-served, report-next, report-sure}
 use Rattle.text.proofs.report_line.Statement.{statement}
 use Rattle.text.proofs.report_line.Tie as tie
@@ -41,7 +42,7 @@ returns c =
     let d = c .before .before .before .before .before .before .before in
     let read = c .before .before .before .before .before .report .given .1 in
     let t = report-next _ (s .pre .0) (s .pre .1) refl (s .pre .2) (d .report-at .ensures .0) _ read in
-    rw (t .2) (c .before .before .step-line .ensures)
+    same-line (c .before .before .step-line .ensures) (omega arith) (t .2)
 
 returns-2 : tie.Need-returns-2
 returns-2 c =
