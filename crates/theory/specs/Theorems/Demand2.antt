@@ -2,8 +2,7 @@
 use mathlib.Core.Path.{_≡_, refl, sym, _∙_, ap}
 use mathlib.Core.Bool.{Bool, true, false, not, _&&_, cond}
 use mathlib.Core.Logic.{_⊎_, inl, inr, _↔_}
-use mathlib.Core.List.{List, [], _∷_, map, List·Memᴰ·not-nil}
-use mathlib.Core.List.{Memᴰ·cast}
+use mathlib.Core.List.{List, [], _∷_, map, List·Memᴰ·not-nil, Memᴰ·cast}
 use mathlib.Core.Option.{Option, some}
 use Prim.Native.Nat.{ℕ, zero, suc, _≤_}
 use Rattle.model.specs.declared.Part.{Part}
@@ -16,18 +15,17 @@ use Rattle.model.specs.Choosing.{permitted, choose, chosen, plan, commands}
 use Rattle.model.specs.Sheet.{opening, closing}
 use Rattle.model.specs.Answers.{Reply}
 use Rattle.model.specs.Laws.Tests.{contra, dec}
-use Rattle.model.specs.Laws.Lists.{all-cons, map-in, rising-keep}
-use Rattle.model.specs.Laws.Lists.{rising-map}
+use Rattle.model.specs.Laws.Lists.{all-cons, map-in, rising-keep, rising-map}
 use Rattle.model.specs.Laws.Choosing.{choices-at}
 use Rattle.model.specs.Laws.Parts.{parts-rise}
-use Rattle.theory.specs.Choosing.{on-in}
-use Rattle.theory.specs.Feeds.{commanded-at}
-use Rattle.theory.specs.Demand3.{PlantState, Operation, operation, isServed, Performed, performed}
-use Rattle.theory.specs.Operations.{any-order, operation-at, opening-at, opening-in, closing-at, closing-in}
-use Rattle.theory.specs.Steady.{phasesOf, Replied, both-done}
-use Rattle.theory.specs.Answering.{start-answered, start-fine}
-use Rattle.theory.specs.Demand3Holds.{controller, start-replied, call-replied, call-answered}
-use Rattle.theory.specs.Demand2.{FirstPermitted, found, not-found, earlier, Needed, ToOpen, ToClose, Serves, Demand2}
+use Rattle.theory.specs.Proofs.Choosing.{on-in}
+use Rattle.theory.specs.Theorems.Feeds.{commanded-at}
+use Rattle.theory.specs.Statements.Demand3.{PlantState, Operation, operation, isServed, Performed, performed}
+use Rattle.theory.specs.Proofs.Operations.{any-order, operation-at, opening-at, opening-in, closing-at, closing-in}
+use Rattle.theory.specs.Proofs.Steady.{phasesOf, Replied, both-done}
+use Rattle.theory.specs.Proofs.Answering.{start-answered, start-fine}
+use Rattle.theory.specs.Theorems.Demand3.{controller, start-replied, call-replied, call-answered}
+use Rattle.theory.specs.Statements.Demand2.{FirstPermitted, found, not-found, earlier, Needed, ToOpen, ToClose, Serves, Demand2}
 
 -- ---- the first permitted path
 
@@ -82,23 +80,30 @@ module _ (n : ℕ) (P : PlantState) where
 
   pub opens-exactly : (o : Operation) → o ∈ map (operation false) (opening n L N) ↔ ToOpen n P (plan n H) o
   opens-exactly o = (
-    λ m. let t = operation-at false (opening n L N) o m in let u = opening-at n L N (o .part) (t .1) in (t .0, u .0, u .1, free (o .part) (u .2)),
-    λ t. Memᴰ·cast (is-operation false o (t .0)) (map-in (operation false) (opening-in n L N (o .part) (t .1) (t .2) (idle (o .part) (t .3)))),
+    λ m. let t =
+        operation-at false (opening n L N) o m in let u = opening-at n L N (o .part) (t .1) in (t .0, u .0, u .1, free (o .part) (u .2)),
+    λ t. Memᴰ·cast (is-operation false o (t .0))
+        (map-in (operation false) (opening-in n L N (o .part) (t .1) (t .2) (idle (o .part) (t .3)))),
   )
 
   pub closes-exactly : (o : Operation) → o ∈ map (operation true) (closing n L N) ↔ ToClose n P (plan n H) o
   closes-exactly o = (
-    λ m. let t = operation-at true (closing n L N) o m in let u = closing-at n L N (o .part) (t .1) in (t .0, u .0, u .1, needed-commanded n H (o .part) .1 (u .2)),
-    λ t. Memᴰ·cast (is-operation true o (t .0)) (map-in (operation true) (closing-in n L N (o .part) (t .1) (t .2) (needed-commanded n H (o .part) .0 (t .3)))),
+    λ m. let t =
+        operation-at true (closing n L N) o m in let u =
+        closing-at n L N (o .part) (t .1) in (t .0, u .0, u .1, needed-commanded n H (o .part) .1 (u .2)),
+    λ t. Memᴰ·cast (is-operation true o (t .0))
+        (map-in (operation true) (closing-in n L N (o .part) (t .1) (t .2) (needed-commanded n H (o .part) .0 (t .3)))),
   )
 
   pub opens-rise : n ≤ largest → RisingBy (λ (o : Operation). partCode (o .part)) (map (operation false) (opening n L N))
   unfolding opening
-  opens-rise small = rising-map (λ (o : Operation). partCode (o .part)) (operation false) (rising-keep (λ p. L p && not (N p)) (parts-rise n small))
+  opens-rise small =
+      rising-map (λ (o : Operation). partCode (o .part)) (operation false) (rising-keep (λ p. L p && not (N p)) (parts-rise n small))
 
   pub closes-rise : n ≤ largest → RisingBy (λ (o : Operation). partCode (o .part)) (map (operation true) (closing n L N))
   unfolding closing
-  closes-rise small = rising-map (λ (o : Operation). partCode (o .part)) (operation true) (rising-keep (λ p. not (L p) && N p) (parts-rise n small))
+  closes-rise small =
+      rising-map (λ (o : Operation). partCode (o .part)) (operation true) (rising-keep (λ p. not (L p) && N p) (parts-rise n small))
 
 -- ---- what a served call's answer is
 

@@ -1,6 +1,5 @@
--- Document 01, "Settled positions": the starred dozen, in one theorem over their table.
-use mathlib.Core.Path.{_≡_, refl}
-use mathlib.Core.List.{List, [], _∷_, map, flatMap}
+-- Document 01, "Settled positions": the starred dozen, as a table. Numbers are the paper's.
+use mathlib.Core.List.{List, [], _∷_, map}
 use Prim.Native.Nat.{ℕ}
 use lib.ListN.{take}
 use Rattle.model.specs.declared.Part.the-variants.{Generator, GeneratorBreaker, BusBreaker}
@@ -9,11 +8,8 @@ use Rattle.model.specs.declared.Report.{Report}
 use Rattle.model.specs.declared.Choice.{Choice}
 use Rattle.model.specs.declared.Choice.the-variants.{Dark, Own, High, Low}
 use Rattle.model.specs.declared.BusChoice.{BusChoice}
-use Rattle.model.specs.Lists.{below, keep, first, anyOf, allOf}
-use Rattle.model.specs.Values.{samePart}
-use Rattle.model.specs.Plant.{PartHealth, next, up, arc, connected}
-use Rattle.model.specs.Priority.{others, sources, pathBusBreakers, pathBreakers, pathParts, highRises, pathsFrom, paths}
-use Rattle.model.specs.Choosing.{onPaths, usable, countedClosed, isolated, permitted, choose, addPath, chosen, plan, choiceOf, choices}
+use Rattle.model.specs.Plant.{PartHealth}
+use Rattle.model.specs.Choosing.{choices}
 use Rattle.model.specs.Reports.{reported, allFit}
 
 -- the health after a list of reports
@@ -67,7 +63,3 @@ starred =
 -- the choices of a position's buses, by the definitions
 unfoldable pub found : Position → List Choice
 found p = map (λ (c : BusChoice). c .choice) (take (p .size) (choices (p .size) (healthAfter (p .faults))))
-
-pub settled : map found starred ≡ map (λ (p : Position). p .expected) starred
-unfolding starred found healthAfter reported choices choiceOf plan chosen addPath choose permitted isolated countedClosed usable onPaths paths pathsFrom highRises pathParts pathBreakers pathBusBreakers sources others flatMap connected arc up next samePart allOf anyOf first keep below
-settled = refl

@@ -131,7 +131,8 @@ up-next-right n a b ha hb ne = go (dec-eq b (next n b)) (up-triangle n a b (next
     far : up n a (next n b) ≢ 0
     far e = ne (sym (up-zero n a (next n b) ha hn e))
 
-    go : (b ≡ next n b) ⊎ (b ≢ next n b) → (up n a b + up n b (next n b) ≡ up n a (next n b)) ⊎ (up n a b + up n b (next n b) ≡ up n a (next n b) + n)
+    go : (b ≡ next n b) ⊎ (b ≢ next n b)
+        → (up n a b + up n b (next n b) ≡ up n a (next n b)) ⊎ (up n a b + up n b (next n b) ≡ up n a (next n b) + n)
         → up n a (next n b) ≡ suc (up n a b)
     go (inl p) t = absurd (next-other n b a hb ha (λ z. ne (sym p ∙ z)) p)
     go (inr p) (inl t) = omega (arith, up-one n b hb p)
@@ -166,7 +167,8 @@ unfolding arc
 arc-at n a zero i ha m = absurd (List·Memᴰ·not-nil m)
 arc-at n a (suc k) i ha m = go (arc-at n (next n a) k i (next-lt n a ha)) (List·Memᴰ·cases-cons m) (dec-eq a i)
   where
-    go : (i ∈ arc n (next n a) k → (i < n) × (up n (next n a) i < k)) → (i ≡ a) ⊎ (i ∈ arc n (next n a) k) → (a ≡ i) ⊎ (a ≢ i) → (i < n) × (up n a i < suc k)
+    go : (i ∈ arc n (next n a) k → (i < n) × (up n (next n a) i < k)) → (i ≡ a) ⊎ (i ∈ arc n (next n a) k) → (a ≡ i) ⊎ (a ≢ i)
+        → (i < n) × (up n a i < suc k)
     go r s (inl q) = (omega arith, rw (← q) (omega (arith, up-refl n a ha)))
     go r (inl p) (inr q) = absurd (q (sym p))
     go r (inr p) (inr q) = let t = r p in (t .0, omega (arith, t .1, up-next n a i ha (t .0) q))

@@ -10,9 +10,9 @@ use Rattle.model.specs.Plant.{PartHealth, PartCommands, generator, generatorBre
 use Rattle.model.specs.Choosing.{chosen, commands}
 use Rattle.model.specs.Laws.Tests.{or-left}
 use Rattle.model.specs.Laws.Parts.{at-index}
-use Rattle.theory.specs.Paths.{generator-on, generator-breaker-on, bus-breaker-on, path-at}
-use Rattle.theory.specs.Choosing.{Safe, safe-chosen}
-use Rattle.theory.specs.Feeds.{Single, Less, single, single-less, closed-case, closed-by, commanded-at}
+use Rattle.theory.specs.Proofs.Paths.{generator-on, generator-breaker-on, bus-breaker-on, path-at}
+use Rattle.theory.specs.Proofs.Choosing.{Safe, safe-chosen}
+use Rattle.theory.specs.Theorems.Feeds.{Single, Less, single, single-less, closed-case, closed-by, commanded-at}
 
 -- every part of the ring that C commands on or closed, D does
 abbrev pub Fewer : ℕ → PartCommands → PartCommands → Type 0
@@ -27,7 +27,8 @@ module _ (n : ℕ) (H : PartHealth) where
   on-fit g e = let t = commanded-at n H (generator g) e in rw (generator-on n (t .0) g (t .2)) (safe .usables (t .0) (t .1) .runs)
 
   breaker-free : (g : ℕ) → commands n H (generatorBreaker g) ≡ true → stuckOpen (H (generatorBreaker g)) ≡ false
-  breaker-free g e = let t = commanded-at n H (generatorBreaker g) e in rw (generator-breaker-on n (t .0) g (t .2)) (safe .usables (t .0) (t .1) .breaker)
+  breaker-free g e =
+      let t = commanded-at n H (generatorBreaker g) e in rw (generator-breaker-on n (t .0) g (t .2)) (safe .usables (t .0) (t .1) .breaker)
 
   line-free : (i : ℕ) → commands n H (busBreaker i) ≡ true → stuckOpen (H (busBreaker i)) ≡ false
   line-free i e =
@@ -41,7 +42,8 @@ pub record NoneStuckClosed (n : ℕ) (H K : PartHealth) : Type 0 where
   pub line : (i : ℕ) → i < n → stuckClosed (K (busBreaker i)) ≡ true → stuckClosed (H (busBreaker i)) ≡ true
 
 -- a breaker that is closed by health k and command c was closed by health h and command d
-was-closed : (h k : ℕ) (c d : Bool) → (stuckClosed k ≡ true → stuckClosed h ≡ true) → (d ≡ true → stuckOpen h ≡ false) → (c ≡ true → d ≡ true) → closed k c ≡ true
+was-closed : (h k : ℕ) (c d : Bool) → (stuckClosed k ≡ true → stuckClosed h ≡ true) → (d ≡ true → stuckOpen h ≡ false)
+    → (c ≡ true → d ≡ true) → closed k c ≡ true
     → closed h d ≡ true
 was-closed h k c d stuck free fewer e = go (closed-case k c e)
   where
@@ -50,14 +52,19 @@ was-closed h k c d stuck free fewer e = go (closed-case k c e)
     go (inr p) = let q = fewer (p .1) in closed-by h d (free q) q
 
 -- while parts open or stop: the standing commands or fewer, after a change of health
-pub opening-single : (n : ℕ) (H K : PartHealth) (C : PartCommands) → NoneStuckClosed n H K → Fewer n C (commands n H) → (b : ℕ) → b < n → Single n K C b
+pub opening-single : (n : ℕ) (H K : PartHealth) (C : PartCommands) → NoneStuckClosed n H K → Fewer n C (commands n H) → (b : ℕ) → b < n
+    → Single n K C b
 opening-single n H K C e f b hb = single-less less b hb (single n H b hb)
   where
     less : Less n K C H (commands n H)
     less = record {
       runs = λ g hg r c. let d = f (generator g) (at-index n g hg) c in (on-fit n H g d, d);
-      breaker = λ g hg c. was-closed (H (generatorBreaker g)) (K (generatorBreaker g)) (C (generatorBreaker g)) (commands n H (generatorBreaker g)) (e .breaker g hg) (breaker-free n H g) (f (generatorBreaker g) (at-index n g hg)) c;
-      line = λ i hi c. was-closed (H (busBreaker i)) (K (busBreaker i)) (C (busBreaker i)) (commands n H (busBreaker i)) (e .line i hi) (line-free n H i) (f (busBreaker i) (at-index n i hi)) c;
+      breaker =
+          λ g hg c. was-closed (H (generatorBreaker g)) (K (generatorBreaker g)) (C (generatorBreaker g))
+          (commands n H (generatorBreaker g)) (e .breaker g hg) (breaker-free n H g) (f (generatorBreaker g) (at-index n g hg)) c;
+      line =
+          λ i hi c. was-closed (H (busBreaker i)) (K (busBreaker i)) (C (busBreaker i)) (commands n H (busBreaker i)) (e .line i hi)
+          (line-free n H i) (f (busBreaker i) (at-index n i hi)) c;
     }
 
 -- while parts close or start: the new commands or fewer
@@ -67,6 +74,10 @@ closing-single n H C f b hb = single-less less b hb (single n H b hb)
     less : Less n H C H (commands n H)
     less = record {
       runs = λ g hg r c. (r, f (generator g) (at-index n g hg) c);
-      breaker = λ g hg c. was-closed (H (generatorBreaker g)) (H (generatorBreaker g)) (C (generatorBreaker g)) (commands n H (generatorBreaker g)) (λ s. s) (breaker-free n H g) (f (generatorBreaker g) (at-index n g hg)) c;
-      line = λ i hi c. was-closed (H (busBreaker i)) (H (busBreaker i)) (C (busBreaker i)) (commands n H (busBreaker i)) (λ s. s) (line-free n H i) (f (busBreaker i) (at-index n i hi)) c;
+      breaker =
+          λ g hg c. was-closed (H (generatorBreaker g)) (H (generatorBreaker g)) (C (generatorBreaker g))
+          (commands n H (generatorBreaker g)) (λ s. s) (breaker-free n H g) (f (generatorBreaker g) (at-index n g hg)) c;
+      line =
+          λ i hi c. was-closed (H (busBreaker i)) (H (busBreaker i)) (C (busBreaker i)) (commands n H (busBreaker i)) (λ s. s)
+          (line-free n H i) (f (busBreaker i) (at-index n i hi)) c;
     }

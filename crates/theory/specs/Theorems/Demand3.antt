@@ -16,7 +16,8 @@ use Rattle.model.specs.declared.Outcome.the-variants as outcome
 use Rattle.model.specs.declared.Feed.the-variants as feed
 use Rattle.model.specs.Lists.{anyOf}
 use Rattle.model.specs.Values.{number, samePart, wordNumber, choiceSource}
-use Rattle.model.specs.Plant.{PartHealth, PartCommands, smallest, largest, generatorBreaker, busBreaker, stuckClosed, healthOfKind, busFeed, InRing, Reaches}
+use Rattle.model.specs.Plant.{PartHealth, PartCommands, smallest, largest, generatorBreaker, busBreaker, stuckClosed, healthOfKind, busFeed, InRing}
+use Rattle.model.specs.Plant.{Reaches}
 use Rattle.model.specs.Priority.{Path}
 use Rattle.model.specs.Choosing.{commands, choices, choiceOf, plan}
 use Rattle.model.specs.Sheet.{opening, closing}
@@ -25,19 +26,20 @@ use Rattle.model.specs.Answers.{Reply, refusedAnswer, refusedReply, startReply,
 use Rattle.model.specs.Laws.Tests.{contra, dec, or-none}
 use Rattle.model.specs.Laws.Choosing.{choice-source, choice-dark, choices-at}
 use Rattle.model.specs.Laws.Parts.{same-eq, health-places}
-use Rattle.theory.specs.Completeness.{de-energized-exactly}
-use Rattle.theory.specs.Feeds.{Single, no-clash, energized-fed, de-energized-fed, reaches-usable, usable-reaches}
-use Rattle.theory.specs.Interruption.{Fewer, NoneStuckClosed, opening-single, closing-single}
-use Rattle.theory.specs.Locality.{feed-ext}
-use Rattle.theory.specs.Demand3.{Controller, PlantState, freshPlant, effect, afterWord, afterWords, Operation, operation, performAll, Phases, decode, Call, step}
-use Rattle.theory.specs.Demand3.{Calls, nothing, _then_, replyTo, words, isServed, World, Performed, performed, Ended, started, served}
-use Rattle.theory.specs.Demand3.{refused, Moment, in-first, in-second, isStuckClosed, isEmpty, excepted, Interrupted, in-start, between, in-call, shownAt}
-use Rattle.theory.specs.Demand3.{BusShown, RecordGiven, AsChosen, wordRefusal, lent, Meets, Meets, Answered, Holds, Demand3}
-use Rattle.theory.specs.Operations.{perform-health, any-order, sheet-order}
-use Rattle.theory.specs.Steady.{phasesOf, Replied, Steady, fit-of-kind, served-replied, served-decodes, transition-steady, some-of-prefix}
-use Rattle.theory.specs.Steady.{first-fewer, first-done, second-fewer}
-use Rattle.theory.specs.Answering.{start-served, start-fine, start-answered, start-ready, blank-fit, step-ready, step-answered, served-fine}
-use Rattle.theory.specs.Answering.{step-served, step-refused}
+use Rattle.theory.specs.Theorems.Completeness.{de-energized-exactly}
+use Rattle.theory.specs.Theorems.Feeds.{Single, no-clash, energized-fed, de-energized-fed, reaches-usable, usable-reaches}
+use Rattle.theory.specs.Theorems.Interruption.{Fewer, NoneStuckClosed, opening-single, closing-single}
+use Rattle.theory.specs.Theorems.Locality.{feed-ext}
+use Rattle.theory.specs.Statements.Demand3.{Controller, PlantState, freshPlant, effect, afterWord, afterWords, Operation, operation, performAll}
+use Rattle.theory.specs.Statements.Demand3.{Phases, decode, Call, step, Calls, nothing, _then_, replyTo, words, isServed, World, Performed}
+use Rattle.theory.specs.Statements.Demand3.{performed, Ended, started, served, refused, Moment, in-first, in-second, isStuckClosed, isEmpty}
+use Rattle.theory.specs.Statements.Demand3.{excepted, Interrupted, in-start, between, in-call, shownAt, BusShown, RecordGiven, AsChosen}
+use Rattle.theory.specs.Statements.Demand3.{wordRefusal, lent, Meets, Answered, Holds, Demand3}
+use Rattle.theory.specs.Proofs.Operations.{perform-health, any-order, sheet-order}
+use Rattle.theory.specs.Proofs.Steady.{phasesOf, Replied, Steady, fit-of-kind, served-replied, served-decodes, transition-steady}
+use Rattle.theory.specs.Proofs.Steady.{some-of-prefix, first-fewer, first-done, second-fewer}
+use Rattle.theory.specs.Proofs.Answering.{start-served, start-fine, start-answered, start-ready, blank-fit, step-ready, step-answered}
+use Rattle.theory.specs.Proofs.Answering.{served-fine, step-served, step-refused}
 
 -- the controller of the definitions
 abbrev pub controller : Controller
@@ -62,7 +64,8 @@ word-of-kind (BusBreaker k) StuckOpen e = refl
 word-of-kind (BusBreaker k) StuckClosed e = refl
 
 -- the health of a ring after a report that is not refused
-module _ {n : ℕ} {W : World} (small : n ≤ largest) (s : Steady n W) (r : Report) (inside : InRing n (r .part)) (word : wordRefusal (r .part) (r .word) ≡ 0) where
+module _ {n : ℕ} {W : World} (small : n ≤ largest) (s : Steady n W) (r : Report) (inside : InRing n (r .part))
+    (word : wordRefusal (r .part) (r .word) ≡ 0) where
   told-is : (p : Part) → InRing largest p → healthOf (told (W .ring) r .health) p ≡ reported (healthOf (W .ring .health)) r p
   unfolding told
   told-is p i = health-places (reported (healthOf (W .ring .health)) r) p i
@@ -80,7 +83,8 @@ module _ {n : ℕ} {W : World} (small : n ≤ largest) (s : Steady n W) (r : Rep
   unfolding reported
   told-above p i l = told-is p i ∙ go (dec (samePart p (r .part)))
     where
-      go : (samePart p (r .part) ≡ true) ⊎ (samePart p (r .part) ≡ false) → cond (samePart p (r .part)) (wordNumber (r .word)) (healthOf (W .ring .health) p) ≡ 0
+      go : (samePart p (r .part) ≡ true) ⊎ (samePart p (r .part) ≡ false)
+          → cond (samePart p (r .part)) (wordNumber (r .word)) (healthOf (W .ring .health) p) ≡ 0
       go (inl e) = absurd (omega (arith, ap number (same-eq p (r .part) e), inside .1))
       go (inr e) = rw e (s .above p i l .0)
 
@@ -89,20 +93,24 @@ same-phases : {o : Option Phases} {x y : Phases} → o ≡ some x → o ≡ some
 same-phases {o} {x} {y} p q = cc
 
 module _ (n : ℕ) (buffer : List ℕ) (big : smallest ≤ n) (small : n ≤ largest) where
-  pub start-steady : {ph : Phases} {Q : PlantState} → isServed (startReply n buffer) ≡ true → decode n (startReply n buffer .buffer) ≡ some ph → Performed ph freshPlant Q
+  pub start-steady : {ph : Phases} {Q : PlantState} → isServed (startReply n buffer) ≡ true
+      → decode n (startReply n buffer .buffer) ≡ some ph → Performed ph freshPlant Q
       → Steady n (record { plant = Q; ring = startReply n buffer .answer .ring; shown = startReply n buffer .answer .choices })
   start-steady {ph} {Q} e d q = rw (start-served n buffer e)
-      (transition-steady small (start-ready n small) (λ p i. rw (blank-fit n p (i .0, omega (arith, i .1))) (fit-of-kind p)) (λ p i l. blank-fit n p i) buffer
+      (transition-steady small (start-ready n small) (λ p i. rw (blank-fit n p (i .0, omega (arith, i .1))) (fit-of-kind p))
+      (λ p i l. blank-fit n p i) buffer
       (rw (same-phases (rw (start-served n buffer e) at d) (served-decodes small (start-ready n small) buffer)) at q))
 
-  pub step-steady : {W : World} {ph : Phases} {Q : PlantState} → Steady n W → (r : Report) (lending : List ℕ) → isServed (stepReply (W .ring) r lending) ≡ true
+  pub step-steady : {W : World} {ph : Phases} {Q : PlantState} → Steady n W → (r : Report) (lending : List ℕ)
+      → isServed (stepReply (W .ring) r lending) ≡ true
       → decode n (stepReply (W .ring) r lending .buffer) ≡ some ph → Performed ph (afterWord r (W .plant)) Q
       → Steady n (record { plant = Q; ring = stepReply (W .ring) r lending .answer .ring; shown = stepReply (W .ring) r lending .answer .choices })
   step-steady {W} {ph} {Q} s r lending e d q =
       let t = served-fine big small s r lending e in
       let z = step-served (W .ring) r lending e in
       rw z
-      (transition-steady small (step-ready small s r) (told-kinds small s r (t .inside) (t .word)) (told-above small s r (t .inside) (t .word)) lending
+      (transition-steady small (step-ready small s r) (told-kinds small s r (t .inside) (t .word))
+      (told-above small s r (t .inside) (t .word)) lending
       (rw (same-phases (rw z at d) (served-decodes small (step-ready small s r) lending)) at q))
 
   pub ended-steady : {calls : Calls} {W : World} → Ended controller n buffer calls W → Steady n W
@@ -179,7 +187,8 @@ not-closed StuckOff e c = contra c refl
 not-closed StuckOpen e c = contra c refl
 not-closed StuckClosed e c = contra refl e
 
-word-none : (r : Report) (P : PlantState) (p : Part) → isStuckClosed (r .word) ≡ false → stuckClosed (afterWord r P .health p) ≡ true → stuckClosed (P .health p) ≡ true
+word-none : (r : Report) (P : PlantState) (p : Part) → isStuckClosed (r .word) ≡ false → stuckClosed (afterWord r P .health p) ≡ true
+    → stuckClosed (P .health p) ≡ true
 unfolding afterWord
 word-none r P p e = go (samePart p (r .part))
   where
@@ -187,7 +196,8 @@ word-none r P p e = go (samePart p (r .part))
     go true c = absurd (not-closed (r .word) e c)
     go false c = c
 
-words-none : (rs : List Report) (P : PlantState) (p : Part) → anyOf (λ r. isStuckClosed (r .word)) rs ≡ false → stuckClosed (afterWords rs P .health p) ≡ true
+words-none : (rs : List Report) (P : PlantState) (p : Part) → anyOf (λ r. isStuckClosed (r .word)) rs ≡ false
+    → stuckClosed (afterWords rs P .health p) ≡ true
     → stuckClosed (P .health p) ≡ true
 unfolding afterWords anyOf
 words-none [] P p e c = c
@@ -204,7 +214,8 @@ unless : (rs : List Report) (rest : List Operation) → excepted rs rest ≡ fal
 unfolding excepted
 unless rs rest e = go (dec (anyOf (λ r. isStuckClosed (r .word)) rs)) (dec (isEmpty rest))
   where
-    go : (anyOf (λ r. isStuckClosed (r .word)) rs ≡ true) ⊎ (anyOf (λ r. isStuckClosed (r .word)) rs ≡ false) → (isEmpty rest ≡ true) ⊎ (isEmpty rest ≡ false)
+    go : (anyOf (λ r. isStuckClosed (r .word)) rs ≡ true) ⊎ (anyOf (λ r. isStuckClosed (r .word)) rs ≡ false)
+        → (isEmpty rest ≡ true) ⊎ (isEmpty rest ≡ false)
         → Unless rs rest
     go (inr p) q = no-word-3 p
     go (inl p) (inl q) = all-opened q
@@ -223,7 +234,8 @@ module _ (n : ℕ) (P₀ : PlantState) (rs : List Report) (stands : Fewer n (P�
   N = commands n (P .health)
 
   -- some operations of the first phase are performed
-  in-first-single : (done rest : List Operation) → List·Permᴰ (done ++ rest) (map (operation false) (opening n (P .last) N)) → Unless rs rest
+  in-first-single : (done rest : List Operation) → List·Permᴰ (done ++ rest) (map (operation false) (opening n (P .last) N))
+      → Unless rs rest
       → (b : ℕ) → b < n → Single n (performAll done P .health) (performAll done P .last) b
   in-first-single done rest d (no-word-3 e) b hb =
       rw (perform-health done P)
@@ -233,7 +245,8 @@ module _ (n : ℕ) (P₀ : PlantState) (rs : List Report) (stands : Fewer n (P�
       none-closed : NoneStuckClosed n (P₀ .health) (P .health)
       none-closed = record { breaker = λ g hg c. words-none rs P₀ (generatorBreaker g) e c; line = λ i hi c. words-none rs P₀ (busBreaker i) e c }
   in-first-single done rest d (all-opened e) b hb =
-      rw (perform-health done P) (closing-single n (P .health) (performAll done P .last) (first-done n P N done (rw (empty-is rest e, append-nil) at d)) b hb)
+      rw (perform-health done P)
+      (closing-single n (P .health) (performAll done P .last) (first-done n P N done (rw (empty-is rest e, append-nil) at d)) b hb)
 
   -- all of the first, and some of the second
   in-second-single : (xs done rest : List Operation) → List·Permᴰ xs (map (operation false) (opening n (P .last) N))
@@ -244,7 +257,8 @@ module _ (n : ℕ) (P₀ : PlantState) (rs : List Report) (stands : Fewer n (P�
       (closing-single n (P .health) (performAll done (performAll xs P) .last)
       (second-fewer n P N (performAll xs P) done (first-done n P N xs dx) (some-of-prefix true (closing n (P .last) N) done rest dy)) b hb)
 
-  moment-single : {rest : List Operation} {Q : PlantState} → Moment (phasesOf n P) P rest Q → Unless rs rest → (b : ℕ) → b < n → Single n (Q .health) (Q .last) b
+  moment-single : {rest : List Operation} {Q : PlantState} → Moment (phasesOf n P) P rest Q → Unless rs rest → (b : ℕ) → b < n
+      → Single n (Q .health) (Q .last) b
   unfolding phasesOf
   moment-single (in-first done {rest = rest} d) u b hb = in-first-single done rest (any-order d) u b hb
   moment-single (in-second xs done rest dx dy) u b hb = in-second-single xs done rest (any-order dx) (any-order dy) b hb
@@ -286,13 +300,16 @@ module _ (n : ℕ) (buffer : List ℕ) (begun : isServed (startReply n buffer) �
   as-planned h p i c = sym (steady h .planned p i) ∙ c
 
   -- a moment of a call that was told the words rs, in a plant P₀ that was as planned
-  call-free : (P₀ : PlantState) {P : PlantState} (rs : List Report) (reply : Reply) {ph : Phases} {rest : List Operation} → Fewer n (P₀ .last) (commands n (P₀ .health))
-      → Replied n (afterWords rs P₀) reply → decode n (reply .buffer) ≡ some ph → Moment ph (afterWords rs P₀) rest P → excepted rs rest ≡ false
+  call-free : (P₀ : PlantState) {P : PlantState} (rs : List Report) (reply : Reply) {ph : Phases} {rest : List Operation}
+      → Fewer n (P₀ .last) (commands n (P₀ .health))
+      → Replied n (afterWords rs P₀) reply → decode n (reply .buffer) ≡ some ph → Moment ph (afterWords rs P₀) rest P
+      → excepted rs rest ≡ false
       → (b : ℕ) → b < n → Single n (P .health) (P .last) b
   call-free P₀ rs reply {rest = rest} stands replied d m u b hb =
       moment-single n P₀ rs stands (rw (same-phases d (replied .decoded)) at m) (unless rs rest u) b hb
 
-  pub call-replied : {before : Calls} {W : World} (call : Call) → Ended controller n buffer before W → isServed (replyTo controller (W .ring) call) ≡ true
+  pub call-replied : {before : Calls} {W : World} (call : Call) → Ended controller n buffer before W
+      → isServed (replyTo controller (W .ring) call) ≡ true
       → Replied n (afterWords (words call) (W .plant)) (replyTo controller (W .ring) call)
   unfolding afterWords
   call-replied (step r lending) h e = step-replied (steady h) r lending e
@@ -301,7 +318,8 @@ module _ (n : ℕ) (buffer : List ℕ) (begun : isServed (startReply n buffer) �
       → Answered (Meets n (W .plant) call) (W .ring) (lent call) (replyTo controller (W .ring) call)
   call-answered (step r lending) h = step-answered big small (steady h) r lending
 
-  clash-free : {calls : Calls} {P : PlantState} {t : Bool} → Interrupted controller n buffer calls P t → t ≡ false → (b : ℕ) → b < n → Single n (P .health) (P .last) b
+  clash-free : {calls : Calls} {P : PlantState} {t : Bool} → Interrupted controller n buffer calls P t → t ≡ false → (b : ℕ) → b < n
+      → Single n (P .health) (P .last) b
   unfolding afterWords
   clash-free (in-start e d m) u = call-free freshPlant [] (startReply n buffer) (λ p i c. contra c refl) start-replied d m u
   clash-free (between {W = W} i h) u = closing-single n (W .plant .health) (W .plant .last) (as-planned h)

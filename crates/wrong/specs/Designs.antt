@@ -1,18 +1,17 @@
 -- Wrong controllers: designs that choose, command or write otherwise than document 01, and the right controller spoilt in one reply.
 -- A design refuses as the controller does, by its own commands and sheets; the right design is the controller.
-use mathlib.Core.Path.{_≡_, refl, ap}
-use mathlib.Core.Bool.{Bool, true, false, not, _&&_, _||_, cond, Bool·beq}
+use mathlib.Core.Path.{_≡_}
+use mathlib.Core.Bool.{Bool, not, _&&_, _||_, cond, Bool·beq}
 use mathlib.Core.List.{List, [], _∷_, _++_, map}
 use mathlib.Core.Option.{Option, none}
 use Prim.Native.Nat.{ℕ, zero, suc, _+_}
 use lib.Dec.{ltb, eqb}
-use lib.ListN.{length, take, drop, set}
+use lib.ListN.{length, take, drop}
 use Rattle.model.specs.declared.Part.{Part}
 use Rattle.model.specs.declared.Part.the-variants.{Generator}
 use Rattle.model.specs.declared.Word.the-variants.{StuckOff}
 use Rattle.model.specs.declared.Report.{Report}
 use Rattle.model.specs.declared.Ring.{Ring}
-use Rattle.model.specs.declared.Outcome.{Outcome}
 use Rattle.model.specs.declared.Outcome.the-variants as outcome
 use Rattle.model.specs.declared.Choice.the-variants as choice
 use Rattle.model.specs.declared.BusChoice.{BusChoice}
@@ -26,10 +25,10 @@ use Rattle.model.specs.Reports.{reported, allFit, places, healthOf, commandsOf,
 use Rattle.model.specs.Refusals.{firstMet, sizeOutside, healthOutside, activeAbove, unplanned, badRecord, tooShort, nextSheet, reportConditions}
 use Rattle.model.specs.Refusals.{startRefusal, stepRefusal}
 use Rattle.model.specs.Answers.{Reply, refusedReply, servedAnswer, servedReply, startReply, stepReply}
-use Rattle.theory.specs.Demand3.{Controller, isServed}
-use Rattle.theory.specs.Demand3Holds.{controller}
-use Rattle.theory.specs.Demand2.{earlier}
-use Rattle.theory.specs.Demand2Holds.{earlier-chosen}
+use Rattle.theory.specs.Statements.Demand3.{Controller, isServed}
+use Rattle.theory.specs.Theorems.Demand3.{controller}
+use Rattle.theory.specs.Statements.Demand2.{earlier}
+use Rattle.theory.specs.Theorems.Demand2.{earlier-chosen}
 
 -- ---- a controller made of a design
 
@@ -160,7 +159,8 @@ repeatsStart = planningFor (λ n H. allFit)
 
 -- "one plan for all faults": with any fault the plan for G1 off
 unfoldable pub onePlan : Design
-onePlan = planningFor (λ n H. cond (anyOf (λ p. not (eqb (H p) 0)) (parts n)) (reported allFit (record { part = Generator 1; word = StuckOff })) allFit)
+onePlan =
+    planningFor (λ n H. cond (anyOf (λ p. not (eqb (H p) 0)) (parts n)) (reported allFit (record { part = Generator 1; word = StuckOff })) allFit)
 
 -- "sheets whose sizes don't count their orders": the sizes of the two phases exchanged
 unfoldable pub miscounts : Design

@@ -15,10 +15,11 @@ use Rattle.model.specs.Priority.{Path, pathBusBreakers, paths}
 use Rattle.model.specs.Choosing.{countedClosed, permitted, choose, chosen, plan}
 use Rattle.model.specs.Laws.Tests.{contra, or-cases, or-left, or-right, dec, dec-eq, dec-lt}
 use Rattle.model.specs.Laws.Lists.{all-cons, any-at, any-in, first-at, first-in, none-some}
-use Rattle.theory.specs.Geometry.{up-refl, up-next, up-next-right, up-through, up-nested, up-inj, up-inj-left, next-lt}
-use Rattle.theory.specs.Connected.{Arc, Near, connected-leads, leads-connected, leads-mono, leads-trans, leads-sym, arc-leads, leads-arcs, leads-split}
-use Rattle.theory.specs.Paths.{Ends, Uses, lower, upper, pathTo, path-at, tried}
-use Rattle.theory.specs.Choosing.{Usable, Safe, counted-cons, counted-usable, permitted-at, permitted-of, chosen-ends, safe-chosen}
+use Rattle.theory.specs.Proofs.Geometry.{up-refl, up-next, up-next-right, up-through, up-nested, up-inj, up-inj-left, next-lt}
+use Rattle.theory.specs.Theorems.Connected.{Arc, Near, connected-leads, leads-connected, leads-mono, leads-trans, leads-sym, arc-leads}
+use Rattle.theory.specs.Theorems.Connected.{leads-arcs, leads-split}
+use Rattle.theory.specs.Proofs.Paths.{Ends, Uses, lower, upper, pathTo, path-at, tried}
+use Rattle.theory.specs.Proofs.Choosing.{Usable, Safe, counted-cons, counted-usable, permitted-at, permitted-of, chosen-ends, safe-chosen}
 
 -- ---- the number of least distance that passes a test
 
@@ -45,7 +46,8 @@ least (suc n) d f = go (least n d f) (dec (f n))
     go (inr r) (inl p) = nearer (dec-lt (d n) (d (r .0)))
       where
         nearer : (d n < d (r .0)) ⊎ (d (r .0) ≤ d n) → Least (suc n) d f
-        nearer (inl q) = inr (n, omega arith, p, with-last n (λ j. f j ≡ true → d n ≤ d j) (λ e. omega arith) (λ j h e. omega (arith, r .3 j h e)))
+        nearer (inl q) =
+            inr (n, omega arith, p, with-last n (λ j. f j ≡ true → d n ≤ d j) (λ e. omega arith) (λ j h e. omega (arith, r .3 j h e)))
         nearer (inr q) = inr (r .0, omega (arith, r .1), r .2, with-last n (λ j. f j ≡ true → d (r .0) ≤ d j) (λ e. q) (r .3))
 
 -- ---- what both directions of the ring share
@@ -111,16 +113,20 @@ module _ (n : ℕ) (H : PartHealth) (ws : List Path) (safe : Safe n H ws) (k : �
   module _ (r : Bool) (d : ℕ → ℕ) (arm : Arm n k r d) where
     -- the breakers of the path from v, added to those that count as closed, connect only what leads to buses on it
     along : (v : ℕ) → v < n → (D : ℕ → Bool) → ((i : ℕ) → i < n → D i ≡ true → (countedClosed n H ws i ≡ true) ⊎ Uses n (pathTo k v r) i)
-        → {a b : ℕ} → Leads n D a b → Leads n (countedClosed n H ws) a b ⊎ (Near n (countedClosed n H ws) (Inside n d v) a × Near n (countedClosed n H ws) (Inside n d v) b)
+        → {a b : ℕ} → Leads n D a b
+        → Leads n (countedClosed n H ws) a b ⊎
+        (Near n (countedClosed n H ws) (Inside n d v) a × Near n (countedClosed n H ws) (Inside n d v) b)
     unfolding Inside
     along v hv D f = leads-split n (countedClosed n H ws) D (Inside n d v) (λ i h e. go i h (f i h e))
       where
-        go : (i : ℕ) → i < n → (countedClosed n H ws i ≡ true) ⊎ Uses n (pathTo k v r) i → (countedClosed n H ws i ≡ true) ⊎ (Inside n d v i × Inside n d v (next n i))
+        go : (i : ℕ) → i < n → (countedClosed n H ws i ≡ true) ⊎ Uses n (pathTo k v r) i
+            → (countedClosed n H ws i ≡ true) ⊎ (Inside n d v i × Inside n d v (next n i))
         go i h (inl p) = inl p
         go i h (inr p) = let t = arm .near v i hv h p in inr ((h, t .0), (next-lt n i h, t .1))
 
     -- no bus on the path from g is connected to a chosen generator: that path is permitted
-    clear : (g : ℕ) → g < n → Usable n H (pathTo k g r) → ((x : ℕ) → x < n → d x ≤ d g → reached x ≡ false) → permitted n H ws (pathTo k g r) ≡ true
+    clear : (g : ℕ) → g < n → Usable n H (pathTo k g r) → ((x : ℕ) → x < n → d x ≤ d g → reached x ≡ false)
+        → permitted n H ws (pathTo k g r) ≡ true
     unfolding Inside
     clear g hg u far = permitted-of (ends-with g r hg) u (λ v w mv mw l. distinct v w (List·Memᴰ·cases-cons mv) (List·Memᴰ·cases-cons mw) l)
       where
@@ -137,7 +143,8 @@ module _ (n : ℕ) (H : PartHealth) (ws : List Path) (safe : Safe n H ws) (k : �
         off : {A : Type 0} {v : Path} → v ∈ ws → Near n (countedClosed n H ws) (Inside n d g) (v .source) → A
         off m t = contra (reached-of (t .0) m (t .1 .0) (t .2)) (far (t .0) (t .1 .0) (t .1 .1))
 
-        distinct : (v w : Path) → (v ≡ p) ⊎ (v ∈ ws) → (w ≡ p) ⊎ (w ∈ ws) → Leads n (countedClosed n H (p ∷ ws)) (v .source) (w .source) → v .source ≡ w .source
+        distinct : (v w : Path) → (v ≡ p) ⊎ (v ∈ ws) → (w ≡ p) ⊎ (w ∈ ws) → Leads n (countedClosed n H (p ∷ ws)) (v .source) (w .source)
+            → v .source ≡ w .source
         distinct v w s t l = go (along g hg (countedClosed n H (p ∷ ws)) split l) s t
           where
             go : Leads n (countedClosed n H ws) (v .source) (w .source) ⊎ (Near n (countedClosed n H ws) (Inside n d g) (v .source) × Near n (countedClosed n H ws) (Inside n d g) (w .source))
@@ -150,7 +157,8 @@ module _ (n : ℕ) (H : PartHealth) (ws : List Path) (safe : Safe n H ws) (k : �
             go (inl x) (inl a) (inr b) = off b (g, (hg, omega arith), leads-sym (rw a at x))
 
     -- v is the first bus on the path from g that is connected to a chosen generator: a path from that generator is permitted
-    met : (g : ℕ) → g < n → Usable n H (pathTo k g r) → (v : ℕ) → v < n → d v ≤ d g → reached v ≡ true → ((x : ℕ) → x < n → reached x ≡ true → d v ≤ d x)
+    met : (g : ℕ) → g < n → Usable n H (pathTo k g r) → (v : ℕ) → v < n → d v ≤ d g → reached v ≡ true
+        → ((x : ℕ) → x < n → reached x ≡ true → d v ≤ d x)
         → Permits n H ws k
     unfolding Inside Permits
     met g hg u v hv dv rv nearest = turn (leads-arcs hk to-k)
@@ -174,7 +182,8 @@ module _ (n : ℕ) (H : PartHealth) (ws : List Path) (safe : Safe n H ws) (k : �
         in-D : (i : ℕ) → i < n → D i ≡ true → (countedClosed n H ws i ≡ true) ⊎ Uses n p i
         in-D i hi e = go (or-cases (countedClosed n H ws i) _ e)
           where
-            go : (countedClosed n H ws i ≡ true) ⊎ (ltb (up n (lower p) i) (up n (lower p) (upper p)) ≡ true) → (countedClosed n H ws i ≡ true) ⊎ Uses n p i
+            go : (countedClosed n H ws i ≡ true) ⊎ (ltb (up n (lower p) i) (up n (lower p) (upper p)) ≡ true)
+                → (countedClosed n H ws i ≡ true) ⊎ Uses n p i
             go (inl q) = inl q
             go (inr q) = inr (ltb-true (up n (lower p) i) (up n (lower p) (upper p)) q)
 
@@ -187,7 +196,8 @@ module _ (n : ℕ) (H : PartHealth) (ws : List Path) (safe : Safe n H ws) (k : �
         alone : (a b : Path) → a ∈ ws → b ∈ ws → Leads n D (a .source) (b .source) → a .source ≡ b .source
         alone a b ma mb l = go (along v hv D in-D l)
           where
-            reach : (x : Path) → x ∈ ws → Near n (countedClosed n H ws) (Inside n d v) (x .source) → Leads n (countedClosed n H ws) (x .source) v
+            reach : (x : Path) → x ∈ ws → Near n (countedClosed n H ws) (Inside n d v) (x .source)
+                → Leads n (countedClosed n H ws) (x .source) v
             reach x mx t =
                 let e : t .0 ≡ v = arm .same (t .0) v (t .1 .0) hv (omega (arith, t .1 .1, nearest (t .0) (t .1 .0) (reached-of (t .0) mx (t .1 .0) (t .2)))) in
                 rw e at (t .2)
@@ -199,8 +209,15 @@ module _ (n : ℕ) (H : PartHealth) (ws : List Path) (safe : Safe n H ws) (k : �
 
         -- a path from h whose breakers are all in D
         from : (s : Bool) → (h ≡ k → s ≡ true) → ((i : ℕ) → i < n → Uses n (pathTo k h s) i → D i ≡ true) → Permits n H ws k
-        from s own f =
-            (h, s, hh, own, permitted-of (ends-with h s hh) whole (λ a b ma mb l. isolates a b (was a (List·Memᴰ·cases-cons ma)) (was b (List·Memᴰ·cases-cons mb)) (leads-mono (λ i hi e. into-D i hi (counted-cons n H ws q i e)) l)))
+        from s own f = (
+          h,
+          s,
+          hh,
+          own,
+          permitted-of (ends-with h s hh) whole
+              (λ a b ma mb l. isolates a b (was a (List·Memᴰ·cases-cons ma)) (was b (List·Memᴰ·cases-cons mb))
+              (leads-mono (λ i hi e. into-D i hi (counted-cons n H ws q i e)) l)),
+        )
           where
             q : Path
             q = pathTo k h s
@@ -278,7 +295,8 @@ module _ (n : ℕ) (H : PartHealth) (ws : List Path) (safe : Safe n H ws) (k : �
       (t .0, t .1, permitted-at (all-cons (Ends n) (t .0) (safe .ends)) (f .1) .0)
 
 -- a bus is dark exactly when no generator of the ring has a usable path to it
-pub de-energized-exactly : (n : ℕ) (H : PartHealth) (b : ℕ) → b < n → plan n H b ≡ none ↔ ((g : ℕ) (r : Bool) → g < n → Usable n H (pathTo b g r) → ⊥)
+pub de-energized-exactly : (n : ℕ) (H : PartHealth) (b : ℕ) → b < n
+    → plan n H b ≡ none ↔ ((g : ℕ) (r : Bool) → g < n → Usable n H (pathTo b g r) → ⊥)
 unfolding plan
 de-energized-exactly n H b hb = (
   λ e g r hg u. none-some e (complete n H (chosen n H b) (safe-chosen n H b (omega arith)) b hb g r hg u .1),

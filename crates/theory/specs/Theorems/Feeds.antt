@@ -17,10 +17,10 @@ use Rattle.model.specs.Priority.{Path, pathParts}
 use Rattle.model.specs.Choosing.{onPaths, countedClosed, choose, addPath, chosen, plan, commands}
 use Rattle.model.specs.Laws.Tests.{contra, not-of, and-left, and-right, and-intro, or-cases, or-left, or-right, dec, dec-eq}
 use Rattle.model.specs.Laws.Lists.{below-in, below-lt, keep-at, keep-in, Rising, rising-below, rising-keep, none-some}
-use Rattle.theory.specs.Connected.{Arc, connected-leads, leads-connected, leads-mono, leads-trans, leads-sym, arc-leads, leads-arcs}
-use Rattle.theory.specs.Paths.{Ends, Uses, pathTo, path-in, generator-on, source-on, breaker-on}
-use Rattle.theory.specs.Choosing.{on-at, on-in, Usable, Safe, counted-in, counted-usable, safe-chosen}
-use Rattle.theory.specs.Completeness.{complete, chosen-usable}
+use Rattle.theory.specs.Theorems.Connected.{Arc, connected-leads, leads-connected, leads-mono, leads-trans, leads-sym, arc-leads, leads-arcs}
+use Rattle.theory.specs.Proofs.Paths.{Ends, Uses, pathTo, path-in, generator-on, source-on, breaker-on}
+use Rattle.theory.specs.Proofs.Choosing.{on-at, on-in, Usable, Safe, counted-in, counted-usable, safe-chosen}
+use Rattle.theory.specs.Theorems.Completeness.{complete, chosen-usable}
 
 -- ---- the reckoning
 
@@ -52,7 +52,8 @@ module _ (n : ℕ) (H : PartHealth) (C : PartCommands) (b : ℕ) where
       go [] e = refl
       go (x ∷ xs) e = let t = feeder-at x (rw e (List·Memᴰ·head refl)) in contra (t .1) (f x (t .0))
 
-  pub feed-by : (g : ℕ) → g < n → feeds n H C b g ≡ true → ((h : ℕ) → h < n → feeds n H C b h ≡ true → h ≡ g) → busFeed n H C b ≡ Fed (suc g)
+  pub feed-by : (g : ℕ) → g < n → feeds n H C b g ≡ true → ((h : ℕ) → h < n → feeds n H C b h ≡ true → h ≡ g)
+      → busFeed n H C b ≡ Fed (suc g)
   unfolding busFeed feedBy
   feed-by g hg fg only = go (feeders n H C b) refl
     where
@@ -109,7 +110,8 @@ module _ {n : ℕ} {H : PartHealth} {C : PartCommands} {b g : ℕ} where
   feeds-of hg hb f =
       let R = running H C g in
       let K = closed (H (generatorBreaker g)) (C (generatorBreaker g)) in
-      and-intro (R && K) _ (and-intro R K (and-intro (fitGenerator H g) (C (generator g)) (f .runs) (f .on)) (f .breaker)) (leads-connected hg hb (f .line))
+      and-intro (R && K) _ (and-intro R K (and-intro (fitGenerator H g) (C (generator g)) (f .runs) (f .on)) (f .breaker))
+      (leads-connected hg hb (f .line))
 
 -- ---- what stands, and what stood: fewer fit and commanded parts feed less
 
@@ -127,10 +129,12 @@ closed-by h c p q = or-right (stuckClosed h) _ (rw (p, q))
 -- every generator that runs, and every breaker that is closed, by H and C is so by K and D
 pub record Less (n : ℕ) (H : PartHealth) (C : PartCommands) (K : PartHealth) (D : PartCommands) : Type 0 where
   pub runs : (g : ℕ) → g < n → fitGenerator H g ≡ true → C (generator g) ≡ true → (fitGenerator K g ≡ true) × (D (generator g) ≡ true)
-  pub breaker : (g : ℕ) → g < n → closed (H (generatorBreaker g)) (C (generatorBreaker g)) ≡ true → closed (K (generatorBreaker g)) (D (generatorBreaker g)) ≡ true
+  pub breaker : (g : ℕ) → g < n → closed (H (generatorBreaker g)) (C (generatorBreaker g)) ≡ true
+      → closed (K (generatorBreaker g)) (D (generatorBreaker g)) ≡ true
   pub line : (i : ℕ) → i < n → closed (H (busBreaker i)) (C (busBreaker i)) ≡ true → closed (K (busBreaker i)) (D (busBreaker i)) ≡ true
 
-pub feeds-less : {n : ℕ} {H K : PartHealth} {C D : PartCommands} → Less n H C K D → (b g : ℕ) → g < n → b < n → feeds n H C b g ≡ true → feeds n K D b g ≡ true
+pub feeds-less : {n : ℕ} {H K : PartHealth} {C D : PartCommands} → Less n H C K D → (b g : ℕ) → g < n → b < n → feeds n H C b g ≡ true
+    → feeds n K D b g ≡ true
 feeds-less l b g hg hb e =
     let t = feeds-at hg hb e in
     let r = l .runs g hg (t .runs) (t .on) in
@@ -145,7 +149,8 @@ single-less l b hb s g h hg hh fg fh = s g h hg hh (feeds-less l b g hg hb fg) (
 path-leads : {n : ℕ} {w : Path} (D : ℕ → Bool) → Ends n w → ((i : ℕ) → i < n → Uses n w i → D i ≡ true) → Leads n D (w .source) (w .bus)
 path-leads {n} {w} D h f = go (w .rising) f
   where
-    go : (r : Bool) → ((i : ℕ) → i < n → up n (cond r (w .source) (w .bus)) i < up n (cond r (w .source) (w .bus)) (cond r (w .bus) (w .source)) → D i ≡ true)
+    go : (r : Bool)
+        → ((i : ℕ) → i < n → up n (cond r (w .source) (w .bus)) i < up n (cond r (w .source) (w .bus)) (cond r (w .bus) (w .source)) → D i ≡ true)
         → Leads n D (w .source) (w .bus)
     go true f = arc-leads n D (w .source) (w .bus) (h .source) (h .bus) f
     go false f = leads-sym (arc-leads n D (w .bus) (w .source) (h .bus) (h .source) f)
@@ -191,7 +196,8 @@ module _ (n : ℕ) (H : PartHealth) where
   unfolding countedClosed commands
   counted-closed i h e = go (or-cases (stuckClosed (H (busBreaker i))) (onPaths n all (busBreaker i)) e)
     where
-      go : (stuckClosed (H (busBreaker i)) ≡ true) ⊎ (onPaths n all (busBreaker i) ≡ true) → closed (H (busBreaker i)) (onPaths n all (busBreaker i)) ≡ true
+      go : (stuckClosed (H (busBreaker i)) ≡ true) ⊎ (onPaths n all (busBreaker i) ≡ true)
+          → closed (H (busBreaker i)) (onPaths n all (busBreaker i)) ≡ true
       go (inl p) = or-left (stuckClosed (H (busBreaker i))) _ p
       go (inr p) = closed-by (H (busBreaker i)) (onPaths n all (busBreaker i)) (counted-usable all-safe i e) p
 
@@ -205,13 +211,15 @@ module _ (n : ℕ) (H : PartHealth) where
   commanded-in p m q = on-in n p m q
 
   -- who feeds after the commands: the chosen generators, over what counts as closed
-  feeds-chosen : (b g : ℕ) → g < n → b < n → feeds n H (commands n H) b g ≡ true → (w : Path) × (w ∈ all) × (g ≡ w .source) × Leads n (countedClosed n H all) g b
+  feeds-chosen : (b g : ℕ) → g < n → b < n → feeds n H (commands n H) b g ≡ true
+      → (w : Path) × (w ∈ all) × (g ≡ w .source) × Leads n (countedClosed n H all) g b
   feeds-chosen b g hg hb e =
       let t = feeds-at hg hb e in
       let c = commanded-at (generator g) (t .on) in
       (c .0, c .1, generator-on n (c .0) g (c .2), leads-mono closed-counted (t .line))
 
-  chosen-feeds : {w : Path} (b : ℕ) → w ∈ all → b < n → Leads n (countedClosed n H all) (w .source) b → feeds n H (commands n H) b (w .source) ≡ true
+  chosen-feeds : {w : Path} (b : ℕ) → w ∈ all → b < n → Leads n (countedClosed n H all) (w .source) b
+      → feeds n H (commands n H) b (w .source) ≡ true
   chosen-feeds {w} b m hb r =
       let u = all-safe .usables w m in
       feeds-of (all-safe .ends w m .source) hb
@@ -234,7 +242,8 @@ module _ (n : ℕ) (H : PartHealth) where
   -- a bus with a choice
   pub energized-fed : (b : ℕ) (w : Path) → b < n → plan n H b ≡ some w → busFeed n H (commands n H) b ≡ Fed (suc (w .source))
   unfolding plan
-  energized-fed b w hb e = feed-by n H (commands n H) b (w .source) (c .0 .source) feeding (λ h hh f. single b hb h (w .source) hh (c .0 .source) f feeding)
+  energized-fed b w hb e =
+      feed-by n H (commands n H) b (w .source) (c .0 .source) feeding (λ h hh f. single b hb h (w .source) hh (c .0 .source) f feeding)
     where
       c : Ends n w × (w .bus ≡ b) × Usable n H w
       c = chosen-usable n H (chosen n H b) (safe-chosen n H b (omega arith)) b hb w e
@@ -269,7 +278,8 @@ module _ (n : ℕ) (H : PartHealth) where
   unfolding plan
   de-energized-fed b hb e = feed-dark n H (commands n H) b (λ g hg. go g hg (dec (feeds n H (commands n H) b g)))
     where
-      go : (g : ℕ) → g < n → (feeds n H (commands n H) b g ≡ true) ⊎ (feeds n H (commands n H) b g ≡ false) → feeds n H (commands n H) b g ≡ false
+      go : (g : ℕ) → g < n → (feeds n H (commands n H) b g ≡ true) ⊎ (feeds n H (commands n H) b g ≡ false)
+          → feeds n H (commands n H) b g ≡ false
       go g hg (inl f) =
           let s = feeder-usable b g hg hb f in
           none-some e (complete n H (chosen n H b) (safe-chosen n H b (omega arith)) b hb g (s .0) hg (s .1) .1)
@@ -297,5 +307,6 @@ usable-reaches {n} {H} {b} {g} r hg hb u = record {
   runs = u .runs;
   breaker = u .breaker;
   line =
-      path-leads {w = pathTo b g r} (λ i. not (stuckOpen (H (busBreaker i)))) (record { source = hg; bus = hb }) (λ i h l. not-of (stuckOpen (H (busBreaker i))) (u .line i h l));
+      path-leads {w = pathTo b g r} (λ i. not (stuckOpen (H (busBreaker i)))) (record { source = hg; bus = hb })
+      (λ i h l. not-of (stuckOpen (H (busBreaker i))) (u .line i h l));
 }

@@ -178,11 +178,14 @@ pub data Performed (ph : Phases) (P : PlantState) : PlantState → Type 0 where
 
 -- what stands when the orders of a start and of the calls after it have ended
 pub data Ended (c : Controller) (n : ℕ) (buffer : List ℕ) : Calls → World → Type 0 where
-  started : {ph : Phases} {Q : PlantState} → isServed (c .start n buffer) ≡ true → decode n (c .start n buffer .buffer) ≡ some ph → Performed ph freshPlant Q
+  started : {ph : Phases} {Q : PlantState} → isServed (c .start n buffer) ≡ true → decode n (c .start n buffer .buffer) ≡ some ph
+      → Performed ph freshPlant Q
       → Ended c n buffer nothing (record { plant = Q; ring = c .start n buffer .answer .ring; shown = c .start n buffer .answer .choices })
-  served : {calls : Calls} {W : World} (call : Call) {ph : Phases} {Q : PlantState} → Ended c n buffer calls W → isServed (replyTo c (W .ring) call) ≡ true
+  served : {calls : Calls} {W : World} (call : Call) {ph : Phases} {Q : PlantState} → Ended c n buffer calls W
+      → isServed (replyTo c (W .ring) call) ≡ true
       → decode n (replyTo c (W .ring) call .buffer) ≡ some ph → Performed ph (afterWords (words call) (W .plant)) Q
-      → Ended c n buffer (calls then call) (record { plant = Q; ring = replyTo c (W .ring) call .answer .ring; shown = replyTo c (W .ring) call .answer .choices })
+      → Ended c n buffer (calls then call)
+      (record { plant = Q; ring = replyTo c (W .ring) call .answer .ring; shown = replyTo c (W .ring) call .answer .choices })
   -- "A refused call changes nothing"; the record last given is what the call returned
   refused : {calls : Calls} {W : World} (call : Call) → Ended c n buffer calls W → isServed (replyTo c (W .ring) call) ≡ false
       → Ended c n buffer (calls then call) (record { plant = W .plant; ring = replyTo c (W .ring) call .answer .ring; shown = W .shown })
@@ -213,10 +216,12 @@ excepted rs rest = anyOf (λ r. isStuckClosed (r .word)) rs && not (isEmpty rest
 
 -- the plant at an interruption anywhere in the list, and whether the moment is excepted
 pub data Interrupted (c : Controller) (n : ℕ) (buffer : List ℕ) (calls : Calls) : PlantState → Bool → Type 0 where
-  in-start : {ph : Phases} {rest : List Operation} {P : PlantState} → isServed (c .start n buffer) ≡ true → decode n (c .start n buffer .buffer) ≡ some ph
+  in-start : {ph : Phases} {rest : List Operation} {P : PlantState} → isServed (c .start n buffer) ≡ true
+      → decode n (c .start n buffer .buffer) ≡ some ph
       → Moment ph freshPlant rest P → Interrupted c n buffer calls P (excepted [] rest)
   between : {before : Calls} {W : World} → Begins before calls → Ended c n buffer before W → Interrupted c n buffer calls (W .plant) false
-  in-call : {before : Calls} {W : World} (call : Call) {ph : Phases} {rest : List Operation} {P : PlantState} → Begins (before then call) calls
+  in-call : {before : Calls} {W : World} (call : Call) {ph : Phases} {rest : List Operation} {P : PlantState}
+      → Begins (before then call) calls
       → Ended c n buffer before W
       → isServed (replyTo c (W .ring) call) ≡ true → decode n (replyTo c (W .ring) call .buffer) ≡ some ph
       → Moment ph (afterWords (words call) (W .plant)) rest P → Interrupted c n buffer calls P (excepted (words call) rest)

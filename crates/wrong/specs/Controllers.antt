@@ -7,53 +7,46 @@ use mathlib.Core.Option.{none, some}
 use Prim.Native.Nat.{ℕ}
 use native.Mathlib.Omega.{arith}
 use lib.Dec.{eqb}
-use lib.ListN.{length, take, drop, set, replicate}
+use lib.ListN.{take, drop, set, replicate}
 use Rattle.model.specs.declared.Part.{Part}
-use Rattle.model.specs.declared.Part.the-variants.{Generator, GeneratorBreaker, BusBreaker}
+use Rattle.model.specs.declared.Part.the-variants.{Generator, BusBreaker}
 use Rattle.model.specs.declared.Word.{Word}
 use Rattle.model.specs.declared.Word.the-variants.{Fit, StuckOff, StuckOpen, StuckClosed}
 use Rattle.model.specs.declared.Report.{Report}
 use Rattle.model.specs.declared.Ring.{Ring}
 use Rattle.model.specs.declared.Feed.the-variants as feed
-use Rattle.model.specs.Lists.{allOf, _∈_}
-use Rattle.model.specs.Plant.{busFeed}
-use Rattle.model.specs.Choosing.{choices}
-use Rattle.model.specs.Sheet.{written}
-use Rattle.model.specs.Reports.{allFit, blankRing, told}
-use Rattle.model.specs.Answers.{Reply, refusedReply, servedReply, startReply, allDark}
+use Rattle.model.specs.Lists.{allOf, _∈_, below, keep, first, anyOf}
+use Rattle.model.specs.Plant.{busFeed, parts, healthOfKind, next, up, arc, connected, feeds, feeders, feedBy}
+use Rattle.model.specs.Choosing.{choices, onPaths, usable, countedClosed, isolated, permitted, choose, addPath, chosen, plan, commands, choiceOf}
+use Rattle.model.specs.Sheet.{written, opening, closing, sheetOf, sheet}
+use Rattle.model.specs.Reports.{allFit, blankRing, told, partNamed, reported, places, healthOf, commandsOf, healthPlaces, commandPlaces, planned}
+use Rattle.model.specs.Reports.{withPlan}
+use Rattle.model.specs.Answers.{Reply, refusedReply, servedReply, startReply, allDark, refusedAnswer, servedAnswer, stepReply}
 use Rattle.model.specs.Laws.Lists.{all-at}
 use Rattle.model.specs.Laws.Refusals.{served-refused}
-use Rattle.theory.specs.Demand3.{Controller, PlantState, Operation, operation, Phases, decode, Call, step, Calls, nothing, _then_, whole, in-first, in-call, excepted, Interrupted, StartMeets, too-small, too-large, too-short, Demand3}
-use Rattle.theory.specs.Demand3Holds.{controller, demand3}
-use Rattle.theory.specs.Demand2.{Demand2}
-use Rattle.theory.specs.Demand2Holds.{demand2}
-use Rattle.theory.specs.Claims as claim
-use Rattle.theory.specs.Claims.{Instance, Claim3, Claim2, fails3, fails2, extraOpen, extraClose, hasOperation, otherOutcome, rises}
-use Rattle.theory.specs.Runs.{run-ended}
-use Rattle.theory.specs.Refuting.{refutes3, refutes2}
-use Rattle.theory.specs.Designs.{Design, designController, right, right-is, startSpoilt, stepSpoilt, whenRefused, whenServed, withRing, withChoices, withBuffer}
-use Rattle.theory.specs.Designs.{allBusesDark, givesUp, emptyPhases, repeatsStart, onePlan, miscounts, oneWave, wavesExchanged, stuckClosedOpen, breakerBehind}
-use Rattle.theory.specs.Designs.{highFirst}
-use Rattle.model.specs.Lists.{below, keep, first, anyOf}
+use Rattle.theory.specs.Statements.Demand3.{Controller, PlantState, operation, decode, step, Calls, nothing, _then_, whole, in-first, in-call}
+use Rattle.theory.specs.Statements.Demand3.{excepted, Interrupted, StartMeets, too-small, too-large, too-short, Demand3, afterWord, afterWords}
+use Rattle.theory.specs.Statements.Demand3.{perform, performAll, commandNamed, withOperation, operations, phasesAt, wordRefusal}
+use Rattle.theory.specs.Theorems.Demand3.{controller, demand3}
+use Rattle.theory.specs.Statements.Demand2.{Demand2, earlier}
+use Rattle.theory.specs.Theorems.Demand2.{demand2}
+use Rattle.theory.specs.Refuting.Claims as claim
+use Rattle.theory.specs.Refuting.Claims.{Instance, Claim3, Claim2, fails3, fails2, extraOpen, extraClose, hasOperation, otherOutcome, rises, sum}
+use Rattle.theory.specs.Refuting.Claims.{digest, ringSum, choiceNumber, choicesSum, operationNumber, operationsDigest, isDark, feedNumber, isClash}
+use Rattle.theory.specs.Refuting.Claims.{onWorld, onPhases, due, refusedInVain, notRefused, recordChanged, bufferChanged, choicesLit, behindChanged}
+use Rattle.theory.specs.Refuting.Claims.{lengthChanged, darkThoughReached, litThoughUnreached, litByAnother, darkThoughFed, otherHealth, otherCommand}
+use Rattle.theory.specs.Refuting.Claims.{unfitAbove, onAbove, anyClash, otherChoice, newCommands, otherFirst, otherSecond, clashInFirst}
+use Rattle.theory.specs.Refuting.Claims.{clashInSecond, startOf, firstReply, startDue, atCall, atServed, atPhases, atStart, atEnd}
+use Rattle.theory.specs.Refuting.Runs.{run-ended, ordered, bothPhases, worldAfter, afterCall, run}
+use Rattle.theory.specs.Refuting.Refuted.{refutes3, refutes2}
+use Rattle.wrong.specs.Designs.{designController, right, right-is, startSpoilt, stepSpoilt, whenRefused, whenServed, withRing, withChoices}
+use Rattle.wrong.specs.Designs.{withBuffer, allBusesDark, givesUp, emptyPhases, repeatsStart, onePlan, miscounts, oneWave, wavesExchanged}
+use Rattle.wrong.specs.Designs.{stuckClosedOpen, breakerBehind, highFirst, designCommands, designSheet, designChoices, designServed, designBad}
+use Rattle.wrong.specs.Designs.{designStart, designStep, chosenBy, trying, planningFor, writing, closingsFirst}
 use Rattle.model.specs.Values.{partCode, samePart}
-use Rattle.model.specs.Plant.{parts, healthOfKind, next, up, arc, connected, feeds, feeders, feedBy}
 use Rattle.model.specs.Priority.{others, sources, pathBusBreakers, pathBreakers, pathParts, highRises, pathsFrom, paths}
-use Rattle.model.specs.Choosing.{onPaths, usable, countedClosed, isolated, permitted, choose, addPath, chosen, plan, commands, choiceOf}
-use Rattle.model.specs.Sheet.{opening, closing, sheetOf, sheet}
-use Rattle.model.specs.Reports.{partNamed, reported, places, healthOf, commandsOf, healthPlaces, commandPlaces, planned, withPlan}
 use Rattle.model.specs.Refusals.{firstMet, sizeOutside, notOfRing, wordOfOtherKind, generatorFitAgain, tooShort, healthOutside, activeAbove}
 use Rattle.model.specs.Refusals.{unplanned, badRecord, nextSheet, reportConditions, startRefusal, stepRefusal}
-use Rattle.model.specs.Answers.{refusedAnswer, servedAnswer, stepReply}
-use Rattle.theory.specs.Demand3.{afterWord, afterWords, perform, performAll, commandNamed, withOperation, operations, phasesAt, wordRefusal}
-use Rattle.theory.specs.Demand2.{earlier}
-use Rattle.theory.specs.Runs.{ordered, bothPhases, worldAfter, afterCall, run}
-use Rattle.theory.specs.Claims.{sum, digest, ringSum, choiceNumber, choicesSum, operationNumber, operationsDigest, isDark, feedNumber, isClash}
-use Rattle.theory.specs.Claims.{onWorld, onPhases, due, refusedInVain, notRefused, recordChanged, bufferChanged, choicesLit, behindChanged}
-use Rattle.theory.specs.Claims.{lengthChanged, darkThoughReached, litThoughUnreached, litByAnother, darkThoughFed, otherHealth, otherCommand}
-use Rattle.theory.specs.Claims.{unfitAbove, onAbove, anyClash, otherChoice, newCommands, otherFirst, otherSecond, clashInFirst, clashInSecond}
-use Rattle.theory.specs.Claims.{startOf, firstReply, startDue, atCall, atServed, atPhases, atStart, atEnd}
-use Rattle.theory.specs.Designs.{designCommands, designSheet, designChoices, designServed, designBad, designStart, designStep, chosenBy, trying}
-use Rattle.theory.specs.Designs.{planningFor, writing, closingsFirst}
 
 -- ---- the calls that show it
 
@@ -428,32 +421,7 @@ none-meets-2 k m d = refutes2 (k .wrong) (k .shows) d (k .claim) (all-at refuted
 pub right-fails-none-2 : (i : Instance) (k : Claim2) → fails2 (designController right) i k ≡ false
 right-fails-none-2 i k = rw right-is (none-true (fails2 controller i k) (refutes2 controller i demand2 k))
 
--- ---- facts of the statement's own tables
-
--- an order for BB1 to close
-abbrev closing1 : Operation
-closing1 = record { part = BusBreaker 1; command = true }
-
--- "The time excepted is that of a served word 3 ..; an empty first wave excepts nothing."
-excepts : (excepted (breaker1Closed ∷ []) (closing1 ∷ []) ≡ true)
-    × (excepted (breaker2Fit ∷ []) (closing1 ∷ []) ≡ false)
-    × (excepted (generator1Off ∷ []) (closing1 ∷ []) ≡ false)
-    × (excepted (breaker2Open ∷ []) (closing1 ∷ []) ≡ false)
-    × (excepted (breaker1Closed ∷ []) [] ≡ false)
-    × (excepted [] (closing1 ∷ []) ≡ false)
-unfolding excepted anyOf
-excepts = (refl, refl, refl, refl, refl, refl)
-
--- the decoder takes a sheet with bytes behind it, and refuses a byte that is no order, an unknown code and a short buffer
-decodes : (decode 3 (1 ∷ 1 ∷ 65 ∷ 64 ∷ 0 ∷ 1 ∷ 9 ∷ []) ≡ some (record { first = operation false (BusBreaker 2) ∷ []; second = closing1 ∷ [] }))
-    × (decode 3 (0 ∷ 1 ∷ 64 ∷ 2 ∷ []) ≡ none)
-    × (decode 3 (0 ∷ 1 ∷ 67 ∷ 1 ∷ []) ≡ none)
-    × (decode 3 (0 ∷ 1 ∷ 64 ∷ []) ≡ none)
-    × (decode 3 (0 ∷ 1 ∷ []) ≡ none)
-    × (decode 3 [] ≡ none)
-    × (operations 3 (64 ∷ []) [] ≡ none)
-unfolding decode phasesAt operations withOperation commandNamed partNamed partCode parts below first
-decodes = (refl, refl, refl, refl, refl, refl, refl)
+-- ---- the order of operations
 
 -- the order of the operations is what is wrong with the fourth and fifth controller of `wrongMoments`: in the sheet's own order they
 -- clash nowhere
@@ -495,5 +463,9 @@ unfolding below keep first anyOf allOf partCode samePart parts healthOfKind next
     stuckClosedOpen breakerBehind highFirst startSpoilt stepSpoilt whenRefused whenServed withRing withChoices withBuffer room callsOf
     starting handed halted reversed sheetWith startRefusing startServing stepRefusing stepServing startWrites stepWrites refusesTwenty
     refusesStarts refusesReports servesStarts servesReports fitChoices noChoices flatMap
-exception-needed =
-    (_, in-call (step breaker1Closed room) whole (run-ended controller false 3 room nothing _ refl) refl refl (in-first [] (Permᴰ·refl _)), refl)
+exception-needed = (
+  _,
+  in-call (step breaker1Closed room) whole (run-ended controller false 3 room nothing _ refl) refl refl
+      (in-first [] (Permᴰ·refl _)),
+  refl,
+)

@@ -1,14 +1,14 @@
 -- Each call is served or refused as it must be: which refusal meets a start or a step, and what is claimed of the reply that has its number.
 use mathlib.Core.Path.{_≡_, refl, sym, _∙_, ap}
-use mathlib.Core.Bool.{Bool, true, false, cond}
+use mathlib.Core.Bool.{true, false, cond}
 use mathlib.Core.Logic.{_≢_, _⊎_, inl, inr}
 use mathlib.Core.List.{List}
-use Prim.Native.Nat.{ℕ, zero, suc, _+_, _*_, _≤_, _<_, min}
+use Prim.Native.Nat.{ℕ, zero, suc, _≤_, _<_, min}
 use native.Mathlib.Omega.{arith}
 use lib.Dec.{ltb, eqb}
 use lib.ListN.{length, drop, length-append, length-drop}
 use lib.Seq.{drop-at}
-use borrow.Author.Tests.{ltb-true, ltb-false, lt-ltb, eq-eqb, ne-eqb}
+use borrow.Author.Tests.{ltb-true, ltb-false, eq-eqb, ne-eqb}
 use Rattle.model.specs.declared.Part.{Part}
 use Rattle.model.specs.declared.Part.the-variants.{Generator, GeneratorBreaker, BusBreaker}
 use Rattle.model.specs.declared.Word.{Word}
@@ -21,16 +21,17 @@ use Rattle.model.specs.Plant.{smallest, largest, allOff, InRing}
 use Rattle.model.specs.Choosing.{commands}
 use Rattle.model.specs.Sheet.{opening, closing, sheetOf, sheet, written}
 use Rattle.model.specs.Reports.{reported, allFit, healthOf, commandsOf, blankRing, told, planned}
-use Rattle.model.specs.Refusals.{firstMet, sizeOutside, notOfRing, wordOfOtherKind, generatorFitAgain, tooShort, nextSheet, reportConditions, startRefusal}
-use Rattle.model.specs.Refusals.{stepRefusal}
+use Rattle.model.specs.Refusals.{firstMet, sizeOutside, notOfRing, wordOfOtherKind, generatorFitAgain, tooShort, nextSheet, reportConditions}
+use Rattle.model.specs.Refusals.{startRefusal, stepRefusal}
 use Rattle.model.specs.Answers.{Reply, refusedAnswer, refusedReply, servedAnswer, servedReply, startReply, stepReply}
 use Rattle.model.specs.Laws.Tests.{contra, dec, dec-eq, or-cases, or-none}
 use Rattle.model.specs.Laws.Refusals.{size-bounds}
 use Rattle.model.specs.Laws.Parts.{health-places, command-places}
 use Rattle.model.specs.Laws.Sheet.{sheetOf-length}
-use Rattle.theory.specs.Demand3.{PlantState, freshPlant, effect, afterWord, Call, step, isServed, sheetLength, World, sheetFor, wordRefusal}
-use Rattle.theory.specs.Demand3.{StartMeets, too-small, too-large, too-short, Meets, no-part, no-word, no-room, Answered}
-use Rattle.theory.specs.Steady.{Ready, Steady, sheet-is, steady-good}
+use Rattle.theory.specs.Statements.Demand3.{PlantState, freshPlant, effect, afterWord, step, isServed, sheetLength, World, sheetFor}
+use Rattle.theory.specs.Statements.Demand3.{wordRefusal, StartMeets, too-small, too-large, too-short, Meets, no-part, no-word, no-room}
+use Rattle.theory.specs.Statements.Demand3.{Answered}
+use Rattle.theory.specs.Proofs.Steady.{Ready, Steady, sheet-is, steady-good}
 
 -- ---- the reply that has a number
 
@@ -124,7 +125,8 @@ module _ (k : ℕ) (ring kept : Ring) (buffer : List ℕ) where
   refused-is e = rw (ne-eqb k 0 (λ z. contra (zero-served z) e))
 
   -- what is claimed of it, where the number is that of the call
-  pub answered-by : {Met : ℕ → Type 0} {Fine : Type 0} → Judged Met Fine k → (Fine → length (nextSheet ring) ≤ length buffer) → Answered Met kept buffer reply
+  pub answered-by : {Met : ℕ → Type 0} {Fine : Type 0} → Judged Met Fine k → (Fine → length (nextSheet ring) ≤ length buffer)
+      → Answered Met kept buffer reply
   unfolding refusedReply refusedAnswer servedReply after
   answered-by {Met} {Fine} judged fits = record {
     only = λ i e. let t = refused-number k i (sym reply-outcome ∙ e) in forth judged i (t .0) (t .1);
@@ -201,7 +203,8 @@ judge-start n room = go (dec (sizeOutside n)) (dec (tooShort room (nextSheet (bl
     is : n ≤ largest → length (nextSheet (blankRing n)) ≡ sheetFor n freshPlant
     is small = ap length (sheet-is small (start-ready n small))
 
-    go : (sizeOutside n ≡ true) ⊎ (sizeOutside n ≡ false) → (tooShort room (nextSheet (blankRing n)) ≡ true) ⊎ (tooShort room (nextSheet (blankRing n)) ≡ false)
+    go : (sizeOutside n ≡ true) ⊎ (sizeOutside n ≡ false)
+        → (tooShort room (nextSheet (blankRing n)) ≡ true) ⊎ (tooShort room (nextSheet (blankRing n)) ≡ false)
         → Judged (StartMeets n room) (StartFine n room) (cond (sizeOutside n) 2 (cond (tooShort room (nextSheet (blankRing n))) 8 0))
     go (inl s) t = rw s (met 2 (omega arith) (by (outside n s)) (only-size (outside n s)))
       where
@@ -227,7 +230,9 @@ start-answered n buffer = answered-by (startRefusal n (length buffer)) (blankRin
 -- a fine start is served, a served one fine
 pub fine-begun : (n : ℕ) (buffer : List ℕ) → StartFine n (length buffer) → isServed (startReply n buffer) ≡ true
 unfolding startReply
-fine-begun n buffer f = zero-served (startRefusal n (length buffer)) (blankRing n) (blankRing 0) buffer (judged-zero (judge-start n (length buffer)) (none-start f))
+fine-begun n buffer f =
+    zero-served (startRefusal n (length buffer)) (blankRing n) (blankRing 0) buffer
+    (judged-zero (judge-start n (length buffer)) (none-start f))
 
 module _ (n : ℕ) (buffer : List ℕ) (begun : isServed (startReply n buffer) ≡ true) where
   pub start-served : startReply n buffer ≡ servedReply (blankRing n) buffer
@@ -236,7 +241,8 @@ module _ (n : ℕ) (buffer : List ℕ) (begun : isServed (startReply n buffer) �
 
   pub start-fine : StartFine n (length buffer)
   unfolding startReply
-  start-fine = judged-fine (judge-start n (length buffer)) (served-zero (startRefusal n (length buffer)) (blankRing n) (blankRing 0) buffer begun)
+  start-fine =
+      judged-fine (judge-start n (length buffer)) (served-zero (startRefusal n (length buffer)) (blankRing n) (blankRing 0) buffer begun)
 
 -- ---- a report, in the record and in the plant
 
@@ -251,7 +257,9 @@ pub step-ready : {n : ℕ} {W : World} → n ≤ largest → Steady n W → (r :
 unfolding told reported afterWord
 step-ready {W = W} small s r = record {
   size = s .size;
-  health = λ p i. health-places (reported (healthOf (W .ring .health)) r) p (i .0, omega (arith, i .1)) ∙ rw (same-effect (r .word), s .health p i);
+  health =
+      λ p i. health-places (reported (healthOf (W .ring .health)) r) p (i .0, omega (arith, i .1)) ∙ rw
+      (same-effect (r .word), s .health p i);
   standing = s .standing;
 }
 
@@ -271,7 +279,8 @@ not-in-ring n p small e r = go (or-cases (ltb (number p) 1) (ltb (min n largest)
 
 -- refusals 6 and 7, by cases
 word-refusal : (p : Part) (w : Word) (x : ℕ)
-    → cond (wordOfOtherKind p (wordNumber w)) 6 (cond (generatorFitAgain p (wordNumber w)) 7 x) ≡ cond (eqb (wordRefusal p w) 0) x (wordRefusal p w)
+    → cond (wordOfOtherKind p (wordNumber w)) 6 (cond (generatorFitAgain p (wordNumber w)) 7 x) ≡ cond (eqb (wordRefusal p w) 0) x
+    (wordRefusal p w)
 unfolding wordOfOtherKind generatorFitAgain wordRefusal
 word-refusal (Generator k) Fit x = refl
 word-refusal (Generator k) StuckOff x = refl
@@ -292,16 +301,19 @@ pub record StepFine (n : ℕ) (P : PlantState) (r : Report) (room : ℕ) : Type 
   pub word : wordRefusal (r .part) (r .word) ≡ 0
   pub fits : sheetFor n (afterWord r P) ≤ room
 
-none-step : {n : ℕ} {P : PlantState} {r : Report} {buffer : List ℕ} → StepFine n P r (length buffer) → (j : ℕ) → Meets n P (step r buffer) j → ⊥
+none-step : {n : ℕ} {P : PlantState} {r : Report} {buffer : List ℕ} → StepFine n P r (length buffer) → (j : ℕ) → Meets n P (step r buffer) j
+    → ⊥
 none-step f j (no-part g) = g (f .inside)
 none-step f j (no-word i e) = omega (arith, f .word)
 none-step f j (no-room i e l) = omega (arith, f .fits)
 
-pub judge-step : (m n : ℕ) → m ≡ n → (P : PlantState) (r : Report) (buffer bytes : List ℕ) → n ≤ largest → length bytes ≡ sheetFor n (afterWord r P)
+pub judge-step : (m n : ℕ) → m ≡ n → (P : PlantState) (r : Report) (buffer bytes : List ℕ) → n ≤ largest
+    → length bytes ≡ sheetFor n (afterWord r P)
     → let w = wordRefusal (r .part) (r .word) in
     Judged (Meets n P (step r buffer)) (StepFine n P r (length buffer))
     (cond (notOfRing m (r .part)) 5 (cond (eqb w 0) (cond (tooShort (length buffer) bytes) 8 0) w))
-judge-step m n same P r buffer bytes small is = rw same (go (dec (notOfRing n (r .part))) (wordRefusal (r .part) (r .word)) refl (dec (tooShort (length buffer) bytes)))
+judge-step m n same P r buffer bytes small is =
+    rw same (go (dec (notOfRing n (r .part))) (wordRefusal (r .part) (r .word)) refl (dec (tooShort (length buffer) bytes)))
   where
     only-part : (InRing n (r .part) → ⊥) → (j : ℕ) → Meets n P (step r buffer) j → j ≡ 5
     only-part f j (no-part g) = refl
@@ -369,6 +381,7 @@ module _ (ring : Ring) (r : Report) (buffer : List ℕ) where
   unfolding stepReply
   step-served e = served-is (stepRefusal ring r (length buffer)) (told ring r) ring buffer e
 
-  pub step-refused : isServed (stepReply ring r buffer) ≡ false → stepReply ring r buffer ≡ refusedReply (stepRefusal ring r (length buffer)) ring buffer
+  pub step-refused : isServed (stepReply ring r buffer) ≡ false
+      → stepReply ring r buffer ≡ refusedReply (stepRefusal ring r (length buffer)) ring buffer
   unfolding stepReply
   step-refused e = refused-is (stepRefusal ring r (length buffer)) (told ring r) ring buffer e

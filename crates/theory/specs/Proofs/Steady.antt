@@ -23,11 +23,11 @@ use Rattle.model.specs.Answers.{Reply, servedAnswer, servedReply}
 use Rattle.model.specs.Laws.Tests.{contra, dec, dec-lt}
 use Rattle.model.specs.Laws.Lists.{any-false, map-in}
 use Rattle.model.specs.Laws.Parts.{parts-at, command-places}
-use Rattle.theory.specs.Locality.{Agree, choices-ext, commands-ext, commanded-in-ring, sheet-ext}
-use Rattle.theory.specs.Interruption.{Fewer}
-use Rattle.theory.specs.Demand3.{PlantState, Operation, operation, performAll, Phases, decode, Performed, performed, World}
-use Rattle.theory.specs.Operations.{perform-health, Struck, hit, miss, struck, perm-in, operation-at, opening-at, opening-in, closing-at, closing-in}
-use Rattle.theory.specs.Operations.{any-order, decode-sheet}
+use Rattle.theory.specs.Theorems.Locality.{Agree, choices-ext, commands-ext, commanded-in-ring, sheet-ext}
+use Rattle.theory.specs.Theorems.Interruption.{Fewer}
+use Rattle.theory.specs.Statements.Demand3.{PlantState, Operation, operation, performAll, Phases, decode, Performed, performed, World}
+use Rattle.theory.specs.Proofs.Operations.{perform-health, Struck, hit, miss, struck, perm-in, operation-at, opening-at, opening-in, closing-at}
+use Rattle.theory.specs.Proofs.Operations.{closing-in, any-order, decode-sheet}
 
 -- ---- operations of the two phases, in any order
 
@@ -71,7 +71,8 @@ module _ (n : ℕ) (P : PlantState) (N : PartCommands) where
       go (miss m z) (inr q) = absurd (m (all-of-perm false opens d p (opening-in n (P .last) N p r (sym z ∙ e) q)))
 
   -- then some of the second phase: still no more than is to be
-  pub second-fewer : (Q : PlantState) (os : List Operation) → Fewer n (Q .last) N → SomeOf true closes os → Fewer n (performAll os Q .last) N
+  pub second-fewer : (Q : PlantState) (os : List Operation) → Fewer n (Q .last) N → SomeOf true closes os
+      → Fewer n (performAll os Q .last) N
   second-fewer Q os f all p r e = go (struck true os Q p (λ o m. all o m .0))
     where
       go : Struck true os Q p → N p ≡ true
@@ -88,15 +89,19 @@ module _ (n : ℕ) (P : PlantState) (N : PartCommands) where
 
       least : N p ≡ true → performAll ys (performAll xs P) .last p ≡ true
       least e =
-          last (struck true ys (performAll xs P) p (λ o m. some-of-perm true closes dy o m .0)) (struck false xs P p (λ o m. some-of-perm false opens dx o m .0)) (dec (P .last p))
+          last (struck true ys (performAll xs P) p (λ o m. some-of-perm true closes dy o m .0))
+          (struck false xs P p (λ o m. some-of-perm false opens dx o m .0)) (dec (P .last p))
         where
-          last : Struck true ys (performAll xs P) p → Struck false xs P p → (P .last p ≡ true) ⊎ (P .last p ≡ false) → performAll ys (performAll xs P) .last p ≡ true
+          last : Struck true ys (performAll xs P) p → Struck false xs P p → (P .last p ≡ true) ⊎ (P .last p ≡ false)
+              → performAll ys (performAll xs P) .last p ≡ true
           last (hit m z) s o = z
           last (miss m z) s (inr o) = absurd (m (all-of-perm true closes dy p (closing-in n (P .last) N p r o e)))
-          last (miss m z) (hit k y) (inl o) = contra e (opening-at n (P .last) N p (some-of-perm false opens dx (operation false p) k .1) .2)
+          last (miss m z) (hit k y) (inl o) =
+              contra e (opening-at n (P .last) N p (some-of-perm false opens dx (operation false p) k .1) .2)
           last (miss m z) (miss k y) (inl o) = z ∙ y ∙ o
 
-      go : (performAll ys (performAll xs P) .last p ≡ true) ⊎ (performAll ys (performAll xs P) .last p ≡ false) → (N p ≡ true) ⊎ (N p ≡ false)
+      go : (performAll ys (performAll xs P) .last p ≡ true) ⊎ (performAll ys (performAll xs P) .last p ≡ false)
+          → (N p ≡ true) ⊎ (N p ≡ false)
           → performAll ys (performAll xs P) .last p ≡ N p
       go (inl s) q = s ∙ sym (most s)
       go (inr s) (inr q) = s ∙ sym q
@@ -131,13 +136,15 @@ module _ {n : ℕ} {ring : Ring} {P : PlantState} (small : n ≤ largest) (ready
 
   pub sheet-is : nextSheet ring ≡ sheet n (P .last) (commands n (P .health))
   unfolding nextSheet planned
-  sheet-is = rw (ready .size) (sheet-ext n (commandsOf (ring .commands)) (P .last) (commands n T) (commands n (P .health)) (ready .standing) news)
+  sheet-is =
+      rw (ready .size) (sheet-ext n (commandsOf (ring .commands)) (P .last) (commands n T) (commands n (P .health)) (ready .standing) news)
 
   pub served-decodes : (buffer : List ℕ) → decode n (servedReply ring buffer .buffer) ≡ some (phasesOf n P)
   unfolding servedReply phasesOf sheet
   served-decodes buffer = rw sheet-is
       (decode-sheet n small (opening n (P .last) (commands n (P .health))) (closing n (P .last) (commands n (P .health)))
-      (λ p m. opening-at n (P .last) (commands n (P .health)) p m .0) (λ p m. closing-at n (P .last) (commands n (P .health)) p m .0) buffer)
+      (λ p m. opening-at n (P .last) (commands n (P .health)) p m .0)
+      (λ p m. closing-at n (P .last) (commands n (P .health)) p m .0) buffer)
 
   served-choices : (buffer : List ℕ) → servedReply ring buffer .answer .choices ≡ choices n (P .health)
   unfolding servedReply servedAnswer
@@ -246,7 +253,8 @@ module _ {n : ℕ} {W : World} (s : Steady n W) where
 
   all-planned : unplanned n H C ≡ false
   unfolding unplanned
-  all-planned = any-false (λ p. not (Bool·beq (C p) (commands n H p))) (parts largest) (λ p m. same (C p) (commands n H p) (go p (in-or-above p m)))
+  all-planned =
+      any-false (λ p. not (Bool·beq (C p) (commands n H p))) (parts largest) (λ p m. same (C p) (commands n H p) (go p (in-or-above p m)))
     where
       same : (a b : Bool) → a ≡ b → not (Bool·beq a b) ≡ false
       same a b e = rw e (beq-refl b)

@@ -7,7 +7,7 @@ use Prim.Native.Nat.{ℕ, _≤_, _<_}
 use native.Mathlib.Omega.{arith}
 use lib.Dec.{ltb}
 use lib.ListN.{length, replicate, length-replicate}
-use borrow.Author.Tests.{ltb-false, lt-ltb, le-ltb, eqb-true, not-false}
+use borrow.Author.Tests.{lt-ltb, eqb-true, not-false}
 use Rattle.model.specs.declared.Part.{Part}
 use Rattle.model.specs.declared.Part.the-variants.{Generator, GeneratorBreaker, BusBreaker}
 use Rattle.model.specs.declared.Word.{Word}
@@ -15,30 +15,25 @@ use Rattle.model.specs.declared.Word.the-variants.{StuckOff, StuckOpen, StuckCl
 use Rattle.model.specs.declared.Report.{Report}
 use Rattle.model.specs.declared.Ring.{Ring}
 use Rattle.model.specs.Lists.{anyOf, _∈_}
-use Rattle.model.specs.Values.{number, samePart, wordNumber, outcomeOf}
-use Rattle.model.specs.Plant.{PartHealth, PartCommands, smallest, largest, parts, fit, stuckOff, stuckOpen, stuckClosed, healthOfKind, generator, InRing}
-use Rattle.model.specs.Plant.{generatorBreaker, busBreaker}
+use Rattle.model.specs.Values.{number, samePart, wordNumber}
+use Rattle.model.specs.Plant.{PartHealth, PartCommands, smallest, largest, parts, fit, stuckOff, stuckOpen, stuckClosed, healthOfKind, generator}
+use Rattle.model.specs.Plant.{InRing, generatorBreaker, busBreaker}
 use Rattle.model.specs.Choosing.{commands, choices}
-use Rattle.model.specs.Sheet.{sheet}
-use Rattle.model.specs.Reports.{reported, allFit, places, healthOf, commandsOf, healthPlaces, commandPlaces, blankRing, told, planned, withPlan}
-use Rattle.model.specs.Refusals.{sizeOutside, healthOutside, activeAbove, unplanned, badRecord, startRefusal, firstMet, tooShort, nextSheet}
+use Rattle.model.specs.Reports.{reported, allFit, healthOf, commandsOf, healthPlaces, commandPlaces, blankRing, told, planned, withPlan}
+use Rattle.model.specs.Refusals.{sizeOutside, healthOutside, activeAbove, unplanned, badRecord}
 use Rattle.model.specs.Answers.{Reply, servedAnswer, servedReply, refusedAnswer, refusedReply, startReply, stepReply}
 use Rattle.model.specs.Laws.Tests.{contra, dec, dec-lt, or-none, or-cases}
 use Rattle.model.specs.Laws.Lists.{any-in, any-none}
 use Rattle.model.specs.Laws.Parts.{at-index, parts-in, parts-at, same-eq, same-refl, is-places, places-ext, health-places}
 use Rattle.model.specs.Laws.Sheet.{sheet-fits}
 use Rattle.model.specs.Laws.Refusals.{good-size}
-use Rattle.theory.specs.Locality.{Agree, commands-ext, commands-held}
-use Rattle.theory.specs.Demand3.{freshPlant, afterWord, performed, World, isServed, wordRefusal}
-use Rattle.theory.specs.Operations.{sheet-order}
-use Rattle.theory.specs.Steady.{not-commanded, Steady, served-decodes, steady-good}
-use Rattle.theory.specs.Answering.{start-ready, start-served, fine-begun, step-ready, step-served, step-refused, StepFine, fine-served}
-use Rattle.theory.specs.Demand3Holds.{start-steady, step-steady}
-
--- what start and steps make, refused steps too
-pub data Made : Ring → Type 0 where
-  started : (n : ℕ) (buffer : List ℕ) → smallest ≤ n → n ≤ largest → isServed (startReply n buffer) ≡ true → Made (startReply n buffer .answer .ring)
-  stepped : {ring : Ring} (r : Report) (buffer : List ℕ) → Made ring → Made (stepReply ring r buffer .answer .ring)
+use Rattle.theory.specs.Theorems.Locality.{Agree, commands-ext, commands-held}
+use Rattle.theory.specs.Statements.Demand3.{freshPlant, afterWord, performed, World, isServed, wordRefusal}
+use Rattle.theory.specs.Statements.Records.{Made, started, stepped, Arrays}
+use Rattle.theory.specs.Proofs.Operations.{sheet-order}
+use Rattle.theory.specs.Proofs.Steady.{not-commanded, Steady, served-decodes, steady-good}
+use Rattle.theory.specs.Proofs.Answering.{start-ready, start-served, fine-begun, step-ready, step-served, step-refused, StepFine, fine-served}
+use Rattle.theory.specs.Theorems.Demand3.{start-steady, step-steady}
 
 -- ---- a record that is made is good
 
@@ -47,21 +42,37 @@ Stands : Ring → Type 0
 Stands ring = (n : ℕ) × (W : World) × (smallest ≤ n) × (n ≤ largest) × Steady n W × (W .ring ≡ ring)
 
 -- one step more, served or refused
-step-stands : {n : ℕ} {W : World} → smallest ≤ n → n ≤ largest → Steady n W → (r : Report) (buffer : List ℕ) → Stands (stepReply (W .ring) r buffer .answer .ring)
+step-stands : {n : ℕ} {W : World} → smallest ≤ n → n ≤ largest → Steady n W → (r : Report) (buffer : List ℕ)
+    → Stands (stepReply (W .ring) r buffer .answer .ring)
 unfolding Stands refusedReply refusedAnswer
 step-stands {n} {W} big small s r buffer = go (dec (isServed (stepReply (W .ring) r buffer)))
   where
-    go : (isServed (stepReply (W .ring) r buffer) ≡ true) ⊎ (isServed (stepReply (W .ring) r buffer) ≡ false) → Stands (stepReply (W .ring) r buffer .answer .ring)
+    go : (isServed (stepReply (W .ring) r buffer) ≡ true) ⊎ (isServed (stepReply (W .ring) r buffer) ≡ false)
+        → Stands (stepReply (W .ring) r buffer .answer .ring)
     go (inl e) =
-        let d = served-decodes small (step-ready small s r) buffer in
-        (n, _, big, small, step-steady n buffer big small s r buffer e (rw (← step-served (W .ring) r buffer e) at d) (performed (sheet-order _) (sheet-order _)), refl)
+        let d = served-decodes small (step-ready small s r) buffer in (
+          n,
+          _,
+          big,
+          small,
+          step-steady n buffer big small s r buffer e (rw (← step-served (W .ring) r buffer e) at d)
+              (performed (sheet-order _) (sheet-order _)),
+          refl,
+        )
     go (inr e) = (n, W, big, small, s, rw (step-refused (W .ring) r buffer e))
 
 made-stands : {ring : Ring} → Made ring → Stands ring
 unfolding Stands
 made-stands (started n buffer big small e) =
-    let d = served-decodes small (start-ready n small) buffer in
-    (n, _, big, small, start-steady n buffer big small e (rw (← start-served n buffer e) at d) (performed (sheet-order _) (sheet-order _)), refl)
+    let d = served-decodes small (start-ready n small) buffer in (
+      n,
+      _,
+      big,
+      small,
+      start-steady n buffer big small e (rw (← start-served n buffer e) at d)
+          (performed (sheet-order _) (sheet-order _)),
+      refl,
+    )
 made-stands (stepped {ring = ring} r buffer m) = go (made-stands m)
   where
     go : Stands ring → Stands (stepReply ring r buffer .answer .ring)
@@ -84,7 +95,8 @@ ring-ext n H K small same = λ i. record {
   n = n;
   health = record {
     generators = places-ext (λ j. H (generator j)) (λ j. K (generator j)) (λ j h. same (generator j) (at-index largest j h)) i;
-    «generator_breakers» = places-ext (λ j. H (generatorBreaker j)) (λ j. K (generatorBreaker j)) (λ j h. same (generatorBreaker j) (at-index largest j h)) i;
+    «generator_breakers» =
+        places-ext (λ j. H (generatorBreaker j)) (λ j. K (generatorBreaker j)) (λ j h. same (generatorBreaker j) (at-index largest j h)) i;
     «bus_breakers» = places-ext (λ j. H (busBreaker j)) (λ j. K (busBreaker j)) (λ j h. same (busBreaker j) (at-index largest j h)) i;
   };
   commands = commandPlaces (λ p. commands-ext n H K inside p i);
@@ -101,7 +113,8 @@ room-length : length room ≡ 122
 unfolding room
 room-length = length-replicate {A = ℕ} 122 0
 
-served-step : {n : ℕ} {W : World} → smallest ≤ n → n ≤ largest → Steady n W → (r : Report) → InRing n (r .part) → wordRefusal (r .part) (r .word) ≡ 0
+served-step : {n : ℕ} {W : World} → smallest ≤ n → n ≤ largest → Steady n W → (r : Report) → InRing n (r .part)
+    → wordRefusal (r .part) (r .word) ≡ 0
     → stepReply (W .ring) r room .answer .ring ≡ withPlan (told (W .ring) r)
 unfolding servedReply servedAnswer
 served-step {n} {W} big small s r i w =
@@ -114,7 +127,8 @@ served-step {n} {W} big small s r i w =
 Spoken : Part → ℕ → Type 0
 Spoken p h = (h ≡ 0) ⊎ ((w : Word) × (wordNumber w ≡ h) × (wordRefusal p w ≡ 0))
 
-breaker-word : (p : Part) (h : ℕ) → wordRefusal p StuckOpen ≡ 0 → wordRefusal p StuckClosed ≡ 0 → fit h || stuckOpen h || stuckClosed h ≡ true → Spoken p h
+breaker-word : (p : Part) (h : ℕ) → wordRefusal p StuckOpen ≡ 0 → wordRefusal p StuckClosed ≡ 0
+    → fit h || stuckOpen h || stuckClosed h ≡ true → Spoken p h
 unfolding Spoken
 breaker-word p h o c e = go (or-cases (fit h || stuckOpen h) (stuckClosed h) e)
   where
@@ -147,7 +161,8 @@ start-made n big small =
     let begun = start-begun n big small in
     rw (ap (λ (x : Reply). x .answer .ring) (start-served n room begun), commands-held n small allFit) at (started n room big small begun)
 
-module _ (n : ℕ) (big : smallest ≤ n) (small : n ≤ largest) (H : PartHealth) (kinds : (p : Part) → InRing n p → healthOfKind p (H p) ≡ true) where
+module _ (n : ℕ) (big : smallest ≤ n) (small : n ≤ largest) (H : PartHealth)
+    (kinds : (p : Part) → InRing n p → healthOfKind p (H p) ≡ true) where
   -- the health H of the parts ps, all others fit
   partial : List Part → PartHealth
   partial ps q = cond (anyOf (samePart q) ps) (H q) 0
@@ -161,7 +176,8 @@ module _ (n : ℕ) (big : smallest ≤ n) (small : n ≤ largest) (H : PartHealt
       fits true h z = refl
       fits false h z = sym z
 
-      go : (q : Part) → (samePart q p ≡ true) ⊎ (samePart q p ≡ false) → cond (anyOf (samePart q) ps) (H q) 0 ≡ cond (samePart q p || anyOf (samePart q) ps) (H q) 0
+      go : (q : Part) → (samePart q p ≡ true) ⊎ (samePart q p ≡ false)
+          → cond (anyOf (samePart q) ps) (H q) 0 ≡ cond (samePart q p || anyOf (samePart q) ps) (H q) 0
       go q (inl t) = let z = ap H (same-eq q p t) ∙ e in rw t (fits (anyOf (samePart q) ps) (H q) z)
       go q (inr t) = rw t
 
@@ -171,14 +187,17 @@ module _ (n : ℕ) (big : smallest ≤ n) (small : n ≤ largest) (H : PartHealt
   unfolding withPlan told planned ringFor reported partial anyOf
   add p ps w e =
       rw (commands-held n small (reported (healthOf (healthPlaces (partial ps))) (record { part = p; word = w })))
-      (ring-ext n (reported (healthOf (healthPlaces (partial ps))) (record { part = p; word = w })) (partial (p ∷ ps)) small (λ q i. go q i (dec (samePart q p))))
+      (ring-ext n (reported (healthOf (healthPlaces (partial ps))) (record { part = p; word = w })) (partial (p ∷ ps)) small
+      (λ q i. go q i (dec (samePart q p))))
     where
       go : (q : Part) → InRing largest q → (samePart q p ≡ true) ⊎ (samePart q p ≡ false)
-          → cond (samePart q p) (wordNumber w) (healthOf (healthPlaces (partial ps)) q) ≡ cond (samePart q p || anyOf (samePart q) ps) (H q) 0
+          → cond (samePart q p) (wordNumber w) (healthOf (healthPlaces (partial ps)) q) ≡ cond (samePart q p || anyOf (samePart q) ps)
+          (H q) 0
       go q i (inl t) = rw t (e ∙ ap H (sym (same-eq q p t)))
       go q i (inr t) = rw t (health-places (partial ps) q i)
 
-  step-made : (p : Part) (ps : List Part) → InRing n p → (w : Word) → wordNumber w ≡ H p → wordRefusal p w ≡ 0 → Made (ringFor n (partial ps))
+  step-made : (p : Part) (ps : List Part) → InRing n p → (w : Word) → wordNumber w ≡ H p → wordRefusal p w ≡ 0
+      → Made (ringFor n (partial ps))
       → Made (ringFor n (partial (p ∷ ps)))
   unfolding Stands ringFor
   step-made p ps i w e f m = go (made-stands m)
@@ -202,15 +221,6 @@ module _ (n : ℕ) (big : smallest ≤ n) (small : n ≤ largest) (H : PartHealt
       go (inr w) m = step-made p ps (all p (List·Memᴰ·head refl)) (w .0) (w .1) (w .2) m
 
 -- ---- a good record is made
-
--- the arrays of a record have 20 places
-pub record Arrays (ring : Ring) : Type 0 where
-  pub generators : length (ring .health .generators) ≡ largest
-  pub generator-breakers : length (ring .health .«generator_breakers») ≡ largest
-  pub bus-breakers : length (ring .health .«bus_breakers») ≡ largest
-  pub generator-commands : length (ring .commands .generators) ≡ largest
-  pub generator-breaker-commands : length (ring .commands .«generator_breakers») ≡ largest
-  pub bus-breaker-commands : length (ring .commands .«bus_breakers») ≡ largest
 
 beq-eq : (a b : Bool) → not (Bool·beq a b) ≡ false → a ≡ b
 beq-eq true true e = refl
@@ -239,7 +249,9 @@ module _ (ring : Ring) (good : badRecord ring ≡ false) where
 
   of-kind : (p : Part) → InRing N p → healthOfKind p (H p) ≡ true
   unfolding healthOutside
-  of-kind p i = not-false (healthOfKind p (H p)) (any-none (λ q. not (healthOfKind q (H q))) (conditions .1) (parts-in largest p (i .0, omega (arith, i .1, good-size ring good .1))))
+  of-kind p i =
+      not-false (healthOfKind p (H p))
+      (any-none (λ q. not (healthOfKind q (H q))) (conditions .1) (parts-in largest p (i .0, omega (arith, i .1, good-size ring good .1))))
 
   above-fit : (p : Part) → InRing largest p → N < number p → H p ≡ 0
   unfolding activeAbove
@@ -250,7 +262,8 @@ module _ (ring : Ring) (good : badRecord ring ≡ false) where
 
   as-planned : (p : Part) → InRing largest p → C p ≡ commands N H p
   unfolding unplanned
-  as-planned p i = beq-eq (C p) (commands N H p) (any-none (λ q. not (Bool·beq (C q) (commands N H q))) (conditions .3) (parts-in largest p i))
+  as-planned p i =
+      beq-eq (C p) (commands N H p) (any-none (λ q. not (Bool·beq (C q) (commands N H q))) (conditions .3) (parts-in largest p i))
 
   above-off : (p : Part) → InRing largest p → N < number p → C p ≡ false
   above-off p i l = as-planned p i ∙ not-commanded N H p l
@@ -271,7 +284,8 @@ module _ (ring : Ring) (good : badRecord ring ≡ false) where
   }
 
 -- a step from a good record gives one
-pub step-good : (ring : Ring) → badRecord ring ≡ false → (r : Report) (buffer : List ℕ) → badRecord (stepReply ring r buffer .answer .ring) ≡ false
+pub step-good : (ring : Ring) → badRecord ring ≡ false → (r : Report) (buffer : List ℕ)
+    → badRecord (stepReply ring r buffer .answer .ring) ≡ false
 unfolding Stands
 step-good ring good r buffer =
     let t = step-stands (good-size ring good .0) (good-size ring good .1) (good-steady ring good) r buffer in
@@ -280,13 +294,16 @@ step-good ring good r buffer =
 module _ (ring : Ring) (arrays : Arrays ring) (good : badRecord ring ≡ false) where
   -- the health of all parts of the ring is the record's
   abbrev K : PartHealth
-  K = partial (ring .n) ((good-size ring good) .0) ((good-size ring good) .1) (healthOf (ring .health)) (of-kind ring good) (parts (ring .n))
+  K =
+      partial (ring .n) ((good-size ring good) .0) ((good-size ring good) .1) (healthOf (ring .health)) (of-kind ring good)
+      (parts (ring .n))
 
   same-health : (p : Part) → InRing largest p → (healthOf (ring .health)) p ≡ K p
   unfolding partial
   same-health p i = go (dec-lt (ring .n) (number p)) (dec (anyOf (samePart p) (parts (ring .n))))
     where
-      go : ((ring .n) < number p) ⊎ (number p ≤ (ring .n)) → (anyOf (samePart p) (parts (ring .n)) ≡ true) ⊎ (anyOf (samePart p) (parts (ring .n)) ≡ false)
+      go : ((ring .n) < number p) ⊎ (number p ≤ (ring .n))
+          → (anyOf (samePart p) (parts (ring .n)) ≡ true) ⊎ (anyOf (samePart p) (parts (ring .n)) ≡ false)
           → (healthOf (ring .health)) p ≡ cond (anyOf (samePart p) (parts (ring .n))) ((healthOf (ring .health)) p) 0
       go l (inl a) = rw a
       go (inl l) (inr a) = rw a ((above-fit ring good) p i l)
@@ -294,26 +311,31 @@ module _ (ring : Ring) (arrays : Arrays ring) (good : badRecord ring ≡ false) 
 
   same-commands : (p : Part) → InRing largest p → (commandsOf (ring .commands)) p ≡ commands (ring .n) K p
   same-commands p i =
-      (as-planned ring good) p i ∙ commands-ext (ring .n) (healthOf (ring .health)) K (λ q j. same-health q (j .0, omega (arith, j .1, (good-size ring good) .1))) p
+      (as-planned ring good) p i ∙ commands-ext (ring .n) (healthOf (ring .health)) K
+      (λ q j. same-health q (j .0, omega (arith, j .1, (good-size ring good) .1))) p
 
   is-ring : ring ≡ ringFor (ring .n) K
   unfolding ringFor healthPlaces commandPlaces healthOf commandsOf
   is-ring = λ i. record {
     n = (ring .n);
     health = record {
-      generators = is-places (λ j. K (generator j)) (ring .health .generators) 0 (arrays .generators) (λ j l. same-health (generator j) (at-index largest j l)) i;
+      generators =
+          is-places (λ j. K (generator j)) (ring .health .generators) 0 (arrays .generators)
+          (λ j l. same-health (generator j) (at-index largest j l)) i;
       «generator_breakers» =
           is-places (λ j. K (generatorBreaker j)) (ring .health .«generator_breakers») 0 (arrays .generator-breakers)
           (λ j l. same-health (generatorBreaker j) (at-index largest j l)) i;
       «bus_breakers» =
-          is-places (λ j. K (busBreaker j)) (ring .health .«bus_breakers») 0 (arrays .bus-breakers) (λ j l. same-health (busBreaker j) (at-index largest j l)) i;
+          is-places (λ j. K (busBreaker j)) (ring .health .«bus_breakers») 0 (arrays .bus-breakers)
+          (λ j l. same-health (busBreaker j) (at-index largest j l)) i;
     };
     commands = record {
       generators =
           is-places (λ j. commands (ring .n) K (generator j)) (ring .commands .generators) false (arrays .generator-commands)
           (λ j l. same-commands (generator j) (at-index largest j l)) i;
       «generator_breakers» =
-          is-places (λ j. commands (ring .n) K (generatorBreaker j)) (ring .commands .«generator_breakers») false (arrays .generator-breaker-commands)
+          is-places (λ j. commands (ring .n) K (generatorBreaker j)) (ring .commands .«generator_breakers») false
+          (arrays .generator-breaker-commands)
           (λ j l. same-commands (generatorBreaker j) (at-index largest j l)) i;
       «bus_breakers» =
           is-places (λ j. commands (ring .n) K (busBreaker j)) (ring .commands .«bus_breakers») false (arrays .bus-breaker-commands)

@@ -8,7 +8,7 @@ use Rattle.model.specs.Lists.{allOf}
 use Rattle.model.specs.Plant.{next, up, arc, Leads, stay, rise, fall, connected}
 use Rattle.model.specs.Laws.Tests.{or-cases, or-left, or-right, dec-eq}
 use Rattle.model.specs.Laws.Lists.{all-at, all-of, all-ext}
-use Rattle.theory.specs.Geometry.{up-refl, up-zero, up-next, up-next-right, up-inj, next-lt, arc-at, arc-in}
+use Rattle.theory.specs.Proofs.Geometry.{up-refl, up-zero, up-next, up-next-right, up-inj, next-lt, arc-at, arc-in}
 
 -- every breaker of the rising arc from a to b is in C
 abbrev pub Arc : ℕ → (ℕ → Bool) → ℕ → ℕ → Type 0
@@ -127,7 +127,8 @@ pub connected-exactly : (n : ℕ) (C : ℕ → Bool) (a b : ℕ) → a < n → b
 connected-exactly n C a b ha hb = (connected-leads ha hb, leads-connected ha hb)
 
 -- only the breakers below n matter
-pub connected-ext : (n : ℕ) (C D : ℕ → Bool) (a b : ℕ) → a < n → b < n → ((i : ℕ) → i < n → C i ≡ D i) → connected n C a b ≡ connected n D a b
+pub connected-ext : (n : ℕ) (C D : ℕ → Bool) (a b : ℕ) → a < n → b < n → ((i : ℕ) → i < n → C i ≡ D i)
+    → connected n C a b ≡ connected n D a b
 unfolding connected
 connected-ext n C D a b ha hb e = ap₂ _||_ (along a b ha) (along b a hb)
   where
@@ -144,14 +145,16 @@ module _ (n : ℕ) (C D : ℕ → Bool) (X : ℕ → Type 0) (adds : (i : ℕ) �
   leads-split stay = inl stay
   leads-split (rise {a = a} {b = b} {c = c} l k e r) = go (leads-split r) (adds a l k)
     where
-      go : Leads n C b c ⊎ (Near n C X b × Near n C X c) → (C a ≡ true) ⊎ (X a × X (next n a)) → Leads n C a c ⊎ (Near n C X a × Near n C X c)
+      go : Leads n C b c ⊎ (Near n C X b × Near n C X c) → (C a ≡ true) ⊎ (X a × X (next n a))
+          → Leads n C a c ⊎ (Near n C X a × Near n C X c)
       go (inl q) (inl z) = inl (rise l z e q)
       go (inr q) (inl z) = inr ((q .0 .0, q .0 .1, rise l z e (q .0 .2)), q .1)
       go (inl q) (inr z) = inr ((a, z .0, stay), (next n a, z .1, leads-sym (rw e at q)))
       go (inr q) (inr z) = inr ((a, z .0, stay), q .1)
   leads-split (fall {a = a} {b = b} {c = c} l k e r) = go (leads-split r) (adds a l k)
     where
-      go : Leads n C a c ⊎ (Near n C X a × Near n C X c) → (C a ≡ true) ⊎ (X a × X (next n a)) → Leads n C b c ⊎ (Near n C X b × Near n C X c)
+      go : Leads n C a c ⊎ (Near n C X a × Near n C X c) → (C a ≡ true) ⊎ (X a × X (next n a))
+          → Leads n C b c ⊎ (Near n C X b × Near n C X c)
       go (inl q) (inl z) = inl (fall l z e q)
       go (inr q) (inl z) = inr ((q .0 .0, q .0 .1, fall l z e (q .0 .2)), q .1)
       go (inl q) (inr z) = inr ((next n a, z .1, rw e stay), (a, z .0, leads-sym q))

@@ -9,8 +9,9 @@ use lib.ListN.{take, drop, take-append-drop}
 use Rattle.model.specs.Answers.{Reply}
 use Rattle.model.specs.Laws.Tests.{dec}
 use Rattle.model.specs.Laws.Lists.{none-some}
-use Rattle.theory.specs.Demand3.{Controller, PlantState, freshPlant, afterWords, Operation, performAll, Phases, decode, Call, Calls, nothing, _then_}
-use Rattle.theory.specs.Demand3.{replyTo, words, isServed, World, AnyOrder, Performed, performed, Ended, started, served, refused}
+use Rattle.theory.specs.Statements.Demand3.{Controller, PlantState, freshPlant, afterWords, Operation, performAll, Phases, decode, Call, Calls}
+use Rattle.theory.specs.Statements.Demand3.{nothing, _then_, replyTo, words, isServed, World, AnyOrder, Performed, performed, Ended, started}
+use Rattle.theory.specs.Statements.Demand3.{served, refused}
 
 -- the operations of a phase in the order performed: the sheet's, or the other way round
 unfoldable pub ordered : Bool → List Operation → List Operation
@@ -105,7 +106,8 @@ module _ (c : Controller) (backward : Bool) (n : ℕ) (buffer : List ℕ) where
               rw z (refused call (ih U q) s)
 
 -- a list whose orders have ended had a served start
-pub ended-begun : {c : Controller} {n : ℕ} {buffer : List ℕ} {calls : Calls} {W : World} → Ended c n buffer calls W → isServed (c .start n buffer) ≡ true
+pub ended-begun : {c : Controller} {n : ℕ} {buffer : List ℕ} {calls : Calls} {W : World} → Ended c n buffer calls W
+    → isServed (c .start n buffer) ≡ true
 ended-begun (started s d p) = s
 ended-begun (served call h s d p) = ended-begun h
 ended-begun (refused call h s) = ended-begun h

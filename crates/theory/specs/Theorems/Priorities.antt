@@ -1,7 +1,7 @@
 -- What a bus tries: every generator once, and two paths from each, one from its own.
 use mathlib.Core.Path.{_≡_, refl, sym, _∙_, ap}
 use mathlib.Core.Bool.{Bool, true, false, not}
-use mathlib.Core.Logic.{_≢_, _⊎_, inl, inr, _↔_}
+use mathlib.Core.Logic.{_≢_, _⊎_, inl, inr}
 use mathlib.Core.List.{List, [], _∷_, _++_, flatMap, List·Memᴰ·head, List·Memᴰ·tail, List·Memᴰ·not-nil, List·Memᴰ·cases-cons, List·Memᴰ·append-cases}
 use mathlib.Core.List.{List·Memᴰ·eq-of-singleton, Memᴰ·append-left, Memᴰ·append-right, Memᴰ·cast}
 use Prim.Native.Nat.{ℕ, zero, suc, _+_, _*_, _≤_, _<_}
@@ -13,21 +13,8 @@ use Rattle.model.specs.Lists.{below, keep, _∈_, RisingBy, more, empty}
 use Rattle.model.specs.Priority.{Path, others, sources, highRises, pathsFrom, paths}
 use Rattle.model.specs.Laws.Tests.{contra, dec, dec-eq}
 use Rattle.model.specs.Laws.Lists.{below-in, below-lt, below-length, keep-at, flat-at, rising-below, rising-keep}
-use Rattle.theory.specs.Paths.{sources-in, sources-at, others-at, from-at}
-
--- ---- what is claimed
-
--- a list without repeats
-pub data Distinct {A : Type 0} : List A → Type 0 where
-  nothing : Distinct []
-  one-more : {x : A} {xs : List A} → (x ∈ xs → ⊥) → Distinct xs → Distinct (x ∷ xs)
-
--- what bus b tries: every generator once, and every path once, one from its own generator and two from each other
-pub record Priorities (n b : ℕ) : Type 0 where
-  pub every-source : (g : ℕ) → g ∈ sources n b ↔ (g < n)
-  pub source-once : Distinct (sources n b)
-  pub path-count : suc (length (paths n b)) ≡ 2 * n
-  pub path-once : Distinct (paths n b)
+use Rattle.theory.specs.Proofs.Paths.{sources-in, sources-at, others-at, from-at}
+use Rattle.theory.specs.Statements.Priorities.{Distinct, nothing, one-more, Priorities}
 
 -- ---- lists without repeats
 
@@ -40,7 +27,8 @@ rising-distinct {g = g} (more {x = x} {xs = xs} l r) = one-more out (rising-dist
 
 distinct-snoc : {A : Type 0} {xs : List A} {y : A} → Distinct xs → (y ∈ xs → ⊥) → Distinct (xs ++ (y ∷ []))
 distinct-snoc nothing f = one-more (λ m. List·Memᴰ·not-nil m) nothing
-distinct-snoc {y = y} (one-more {x = x} {xs = xs} g d) f = one-more (λ m. go (List·Memᴰ·append-cases xs m)) (distinct-snoc d (λ m. f (List·Memᴰ·tail m)))
+distinct-snoc {y = y} (one-more {x = x} {xs = xs} g d) f =
+    one-more (λ m. go (List·Memᴰ·append-cases xs m)) (distinct-snoc d (λ m. f (List·Memᴰ·tail m)))
   where
     go : (x ∈ xs) ⊎ (x ∈ y ∷ []) → ⊥
     go (inl m) = g m
@@ -48,7 +36,8 @@ distinct-snoc {y = y} (one-more {x = x} {xs = xs} g d) f = one-more (λ m. go (L
 
 distinct-append : {A : Type 0} {xs ys : List A} → Distinct xs → Distinct ys → ((x : A) → x ∈ xs → x ∈ ys → ⊥) → Distinct (xs ++ ys)
 distinct-append nothing e f = e
-distinct-append {ys = ys} (one-more {x = x} {xs = xs} g d) e f = one-more (λ m. go (List·Memᴰ·append-cases xs m)) (distinct-append d e (λ y m k. f y (List·Memᴰ·tail m) k))
+distinct-append {ys = ys} (one-more {x = x} {xs = xs} g d) e f =
+    one-more (λ m. go (List·Memᴰ·append-cases xs m)) (distinct-append d e (λ y m k. f y (List·Memᴰ·tail m) k))
   where
     go : (x ∈ xs) ⊎ (x ∈ ys) → ⊥
     go (inl m) = g m
@@ -87,7 +76,8 @@ unfolding sources rest
 sources-distinct n zero = rising-distinct (rising-below n)
 sources-distinct n (suc zero) = two-first (others-distinct n) (λ g m. others-at n g m .0)
 sources-distinct n (suc (suc k)) =
-    two-first (distinct-snoc (rest-distinct n (suc (suc k))) (λ m. rest-at n (suc (suc k)) (suc (suc k)) m .1 refl)) (λ g m. go g (List·Memᴰ·append-cases (rest n (suc (suc k))) m))
+    two-first (distinct-snoc (rest-distinct n (suc (suc k))) (λ m. rest-at n (suc (suc k)) (suc (suc k)) m .1 refl))
+    (λ g m. go g (List·Memᴰ·append-cases (rest n (suc (suc k))) m))
   where
     go : (g : ℕ) → (g ∈ rest n (suc (suc k))) ⊎ (g ∈ suc (suc k) ∷ []) → 2 ≤ g
     go g (inl m) = rest-at n (suc (suc k)) g m .0
@@ -112,7 +102,8 @@ distinct-shorter {A} (one-more {x = x} {xs = xs} g d) ys f = go (λ zs h. distin
         behind (inl e) = absurd (g (Memᴰ·cast (sym e) m))
         behind (inr q) = Memᴰ·append-right front q
 
-    go : ((zs : List A) → ((y : A) → y ∈ xs → y ∈ zs) → length xs ≤ length zs) → (front : List A) × (back : List A) × (ys ≡ front ++ (x ∷ back))
+    go : ((zs : List A) → ((y : A) → y ∈ xs → y ∈ zs) → length xs ≤ length zs)
+        → (front : List A) × (back : List A) × (ys ≡ front ++ (x ∷ back))
         → suc (length xs) ≤ length ys
     go r t =
         let shorter = r (t .0 ++ t .1) (λ y m. other (t .0) (t .1) y m (List·Memᴰ·append-cases (t .0) (rw (t .2) at (f y (List·Memᴰ·tail m))))) in
@@ -140,7 +131,8 @@ own-length n b g e = rw (eq-eqb g b e)
 
 -- two paths a source, but one from the bus's own
 flat-length : (n b : ℕ) {xs : List ℕ} → Distinct xs
-    → (b ∈ xs → suc (length (flatMap (pathsFrom n b) xs)) ≡ 2 * length xs) × ((b ∈ xs → ⊥) → length (flatMap (pathsFrom n b) xs) ≡ 2 * length xs)
+    → (b ∈ xs → suc (length (flatMap (pathsFrom n b) xs)) ≡ 2 * length xs) ×
+    ((b ∈ xs → ⊥) → length (flatMap (pathsFrom n b) xs) ≡ 2 * length xs)
 unfolding flatMap
 flat-length n b nothing = (λ m. absurd (List·Memᴰ·not-nil m), λ f. refl)
 flat-length n b (one-more {x = x} {xs = xs} g d) = go (flat-length n b d) (dec-eq x b)
@@ -148,11 +140,16 @@ flat-length n b (one-more {x = x} {xs = xs} g d) = go (flat-length n b d) (dec-e
     joined : length (pathsFrom n b x ++ flatMap (pathsFrom n b) xs) ≡ length (pathsFrom n b x) + length (flatMap (pathsFrom n b) xs)
     joined = length-append (pathsFrom n b x) (flatMap (pathsFrom n b) xs)
 
-    go : (b ∈ xs → suc (length (flatMap (pathsFrom n b) xs)) ≡ 2 * length xs) × ((b ∈ xs → ⊥) → length (flatMap (pathsFrom n b) xs) ≡ 2 * length xs) → (x ≡ b) ⊎ (x ≢ b)
-        → (b ∈ x ∷ xs → suc (length (pathsFrom n b x ++ flatMap (pathsFrom n b) xs)) ≡ 2 * suc (length xs)) × ((b ∈ x ∷ xs → ⊥) → length (pathsFrom n b x ++ flatMap (pathsFrom n b) xs) ≡ 2 * suc (length xs))
+    go : (b ∈ xs → suc (length (flatMap (pathsFrom n b) xs)) ≡ 2 * length xs) × ((b ∈ xs → ⊥) → length (flatMap (pathsFrom n b) xs) ≡ 2 * length xs)
+        → (x ≡ b) ⊎ (x ≢ b)
+        → (b ∈ x ∷ xs → suc (length (pathsFrom n b x ++ flatMap (pathsFrom n b) xs)) ≡ 2 * suc (length xs)) ×
+        ((b ∈ x ∷ xs → ⊥) → length (pathsFrom n b x ++ flatMap (pathsFrom n b) xs) ≡ 2 * suc (length xs))
     go ih (inl e) = (λ m. omega (arith, joined, own-length n b x e, ih .1 (λ k. g (Memᴰ·cast e k))), λ f. absurd (f (List·Memᴰ·head (sym e))))
-    go ih (inr e) =
-        (λ m. omega (arith, joined, from-length n b x e, ih .0 (later (List·Memᴰ·cases-cons m))), λ f. omega (arith, joined, from-length n b x e, ih .1 (λ k. f (List·Memᴰ·tail k))))
+    go ih (inr e) = (
+      λ m. omega (arith, joined, from-length n b x e, ih .0 (later (List·Memᴰ·cases-cons m))),
+      λ f. omega
+          (arith, joined, from-length n b x e, ih .1 (λ k. f (List·Memᴰ·tail k))),
+    )
       where
         later : (b ≡ x) ⊎ (b ∈ xs) → b ∈ xs
         later (inl z) = absurd (e (sym z))

@@ -19,7 +19,8 @@ use Rattle.model.specs.Lists.{_∈_}
 use Rattle.model.specs.Laws.Lists.{map-at, keep-at, keep-in}
 use Rattle.model.specs.Laws.Parts.{parts-in, parts-at, same-eq, same-refl}
 use Rattle.model.specs.Laws.Reports.{named-code}
-use Rattle.theory.specs.Demand3.{PlantState, Operation, operation, perform, performAll, commandNamed, withOperation, operations, phasesAt, decode, AnyOrder}
+use Rattle.theory.specs.Statements.Demand3.{PlantState, Operation, operation, perform, performAll, commandNamed, withOperation, operations}
+use Rattle.theory.specs.Statements.Demand3.{phasesAt, decode, AnyOrder}
 
 -- ---- performing
 
@@ -119,13 +120,16 @@ one-command : (n : ℕ) (b : ℕ) (c : Bool) → commandNamed b ≡ some c → n
     → operations n (map partCode ps) (map (λ p. b) ps) ≡ some (map (operation c) ps)
 unfolding operations withOperation
 one-command n b c e h [] all = refl
-one-command n b c e h (p ∷ ps) all = rw (named-code n p h (all p (List·Memᴰ·head refl)), e, one-command n b c e h ps (λ q m. all q (List·Memᴰ·tail m)))
+one-command n b c e h (p ∷ ps) all =
+    rw (named-code n p h (all p (List·Memᴰ·head refl)), e, one-command n b c e h ps (λ q m. all q (List·Memᴰ·tail m)))
 
 both-commands : (n : ℕ) → n ≤ largest → (xs ys : List Part) → AllInRing n xs → AllInRing n ys
-    → operations n (map partCode (xs ++ ys)) (map (λ p. 0) xs ++ map (λ p. 1) ys) ≡ some (map (operation false) xs ++ map (operation true) ys)
+    → operations n (map partCode (xs ++ ys)) (map (λ p. 0) xs ++ map (λ p. 1) ys) ≡ some
+    (map (operation false) xs ++ map (operation true) ys)
 unfolding operations withOperation commandNamed
 both-commands n h [] ys ax ay = one-command n 1 true refl h ys ay
-both-commands n h (p ∷ xs) ys ax ay = rw (named-code n p h (ax p (List·Memᴰ·head refl)), both-commands n h xs ys (λ q m. ax q (List·Memᴰ·tail m)) ay)
+both-commands n h (p ∷ xs) ys ax ay =
+    rw (named-code n p h (ax p (List·Memᴰ·head refl)), both-commands n h xs ys (λ q m. ax q (List·Memᴰ·tail m)) ay)
 
 -- the sheet's two arrays
 codes : List Part → List Part → List ℕ
@@ -155,12 +159,14 @@ module _ (xs ys : List Part) (rest : List ℕ) where
   behind-length : length ((codes xs ys ++ bytes xs ys) ++ rest) ≡ (length xs + length ys) + (length xs + length ys) + length rest
   behind-length = simp (length-append) (omega (arith, (codes-length xs ys), (bytes-length xs ys)))
 
-decode-behind : (n a b : ℕ) (l : List ℕ) → a + b + (a + b) ≤ length l → decode n (a ∷ b ∷ l) ≡ phasesAt a (operations n (take (a + b) l) (take (a + b) (drop (a + b) l)))
+decode-behind : (n a b : ℕ) (l : List ℕ) → a + b + (a + b) ≤ length l
+    → decode n (a ∷ b ∷ l) ≡ phasesAt a (operations n (take (a + b) l) (take (a + b) (drop (a + b) l)))
 unfolding decode
 decode-behind n a b l h = let e : 2 + (a + b) ≡ suc (suc (a + b)) = omega arith in rw (le-leb (2 + 2 * (a + b)) (suc (suc (length l))) (omega arith), e)
 
 phases-split : (xs ys : List Part)
-    → phasesAt (length xs) (some (map (operation false) xs ++ map (operation true) ys)) ≡ some (record { first = map (operation false) xs; second = map (operation true) ys })
+    → phasesAt (length xs) (some (map (operation false) xs ++ map (operation true) ys)) ≡ some
+    (record { first = map (operation false) xs; second = map (operation true) ys })
 unfolding phasesAt
 phases-split xs ys =
     let e : length (map (operation false) xs) ≡ length xs = length-map xs (operation false) in

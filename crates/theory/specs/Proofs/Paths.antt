@@ -14,7 +14,7 @@ use Rattle.model.specs.Plant.{generator, generatorBreaker, busBreaker, up, arc,
 use Rattle.model.specs.Priority.{Path, others, sources, pathBusBreakers, pathBreakers, pathParts, highRises, pathsFrom, paths}
 use Rattle.model.specs.Laws.Tests.{dec, dec-eq, not-of}
 use Rattle.model.specs.Laws.Lists.{below-in, below-lt, keep-in, keep-at, map-in, map-at, flat-in, flat-at}
-use Rattle.theory.specs.Geometry.{arc-at, arc-in}
+use Rattle.theory.specs.Proofs.Geometry.{arc-at, arc-in}
 
 -- ---- what is on a path
 
@@ -65,9 +65,11 @@ pub path-at : {n : ℕ} {w : Path} (i : ℕ) → Ends n w → i ∈ pathBusBreak
 unfolding pathBusBreakers
 path-at {n} {w} i h m = go (w .rising) refl
   where
-    go : (r : Bool) → w .rising ≡ r → (i < n) × (up n (cond r (w .source) (w .bus)) i < up n (cond r (w .source) (w .bus)) (cond r (w .bus) (w .source)))
+    go : (r : Bool) → w .rising ≡ r
+        → (i < n) × (up n (cond r (w .source) (w .bus)) i < up n (cond r (w .source) (w .bus)) (cond r (w .bus) (w .source)))
     go true e = arc-at n (w .source) (up n (w .source) (w .bus)) i (h .source) (rw e at m)
-    go false e = arc-at n (w .bus) (up n (w .bus) (w .source)) i (h .bus) (reverse-at (arc n (w .bus) (up n (w .bus) (w .source))) (rw e at m))
+    go false e =
+        arc-at n (w .bus) (up n (w .bus) (w .source)) i (h .bus) (reverse-at (arc n (w .bus) (up n (w .bus) (w .source))) (rw e at m))
 
 pub path-in : {n : ℕ} {w : Path} (i : ℕ) → Ends n w → i < n → Uses n w i → i ∈ pathBusBreakers n w
 unfolding pathBusBreakers
@@ -183,7 +185,8 @@ sources-in n (suc (suc b)) (suc (suc g)) hb hg = List·Memᴰ·tail (List·Mem�
     go (inl e) = Memᴰ·append-right mid (List·Memᴰ·head e)
     go (inr e) =
         Memᴰ·append-left (suc (suc b) ∷ [])
-        (keep-in (λ h. not (eqb h (suc (suc b)))) (others-in n (suc (suc g)) (omega arith) hg) (not-of (eqb (suc (suc g)) (suc (suc b))) (ne-eqb (suc (suc g)) (suc (suc b)) e)))
+        (keep-in (λ h. not (eqb h (suc (suc b)))) (others-in n (suc (suc g)) (omega arith) hg)
+        (not-of (eqb (suc (suc g)) (suc (suc b))) (ne-eqb (suc (suc g)) (suc (suc b)) e)))
 
 -- and no other
 pub sources-at : (n b g : ℕ) → b < n → g ∈ sources n b → g < n

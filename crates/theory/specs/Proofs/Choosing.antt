@@ -17,9 +17,9 @@ use Rattle.model.specs.Choosing.{onPaths, usable, countedClosed, isolated, perm
 use Rattle.model.specs.Laws.Tests.{contra, not-of, and-left, and-right, and-intro, or-cases, or-left, or-right, dec}
 use Rattle.model.specs.Laws.Lists.{all-cons, any-at, any-in, all-at, all-of, map-in, first-at}
 use Rattle.model.specs.Laws.Parts.{same-eq, same-refl}
-use Rattle.theory.specs.Connected.{connected-leads, leads-connected}
-use Rattle.theory.specs.Paths.{Ends, Uses, OnPath, at-generator, at-generator-breaker, at-bus-breaker, on-path, path-at, path-in, bus-breaker-on}
-use Rattle.theory.specs.Paths.{breakers-on, line-on, tried-at}
+use Rattle.theory.specs.Theorems.Connected.{connected-leads, leads-connected}
+use Rattle.theory.specs.Proofs.Paths.{Ends, Uses, OnPath, at-generator, at-generator-breaker, at-bus-breaker, on-path, path-at, path-in}
+use Rattle.theory.specs.Proofs.Paths.{bus-breaker-on, breakers-on, line-on, tried-at}
 
 -- ---- parts of chosen paths
 
@@ -53,13 +53,15 @@ module _ {n : ℕ} {H : PartHealth} {w : Path} (h : Ends n w) where
       record {
         runs = and-left A _ e;
         breaker = not-true (stuckOpen (H (generatorBreaker (w .source)))) (all (generatorBreaker (w .source)) (List·Memᴰ·head refl));
-        line = λ i hi u. not-true (stuckOpen (H (busBreaker i))) (all (busBreaker i) (List·Memᴰ·tail (map-in busBreaker (path-in i h hi u))));
+        line =
+            λ i hi u. not-true (stuckOpen (H (busBreaker i))) (all (busBreaker i) (List·Memᴰ·tail (map-in busBreaker (path-in i h hi u))));
       }
 
   pub usable-of : Usable n H w → usable n H w ≡ true
   unfolding usable
   usable-of u =
-      and-intro (fitGenerator H (w .source)) _ (u .runs) (all-of (notOpen H) (pathBreakers n w) (λ p m. not-of (stuckOpen (H p)) (go p (on-path n w p (breakers-on n w p m)))))
+      and-intro (fitGenerator H (w .source)) _ (u .runs)
+      (all-of (notOpen H) (pathBreakers n w) (λ p m. not-of (stuckOpen (H p)) (go p (on-path n w p (breakers-on n w p m)))))
     where
       go : (p : Part) → OnPath n w p → stuckOpen (H p) ≡ false
       go p at-generator = rw (eqb-true (H (generator (w .source))) 0 (u .runs))
@@ -79,30 +81,40 @@ module _ (n : ℕ) (H : PartHealth) (ws : List Path) (ends : (w : Path) → w �
 
   pub isolated-at : isolated n H ws ≡ true → Isolated n H ws
   unfolding isolated apart
-  isolated-at e v w mv mw r = go (or-cases (eqb (v .source) (w .source)) _ (all-at (apart v) ws (all-at (λ x. allOf (apart x) ws) ws e v mv) w mw))
+  isolated-at e v w mv mw r =
+      go (or-cases (eqb (v .source) (w .source)) _ (all-at (apart v) ws (all-at (λ x. allOf (apart x) ws) ws e v mv) w mw))
     where
-      go : (eqb (v .source) (w .source) ≡ true) ⊎ (not (connected n (countedClosed n H ws) (v .source) (w .source)) ≡ true) → v .source ≡ w .source
+      go : (eqb (v .source) (w .source) ≡ true) ⊎ (not (connected n (countedClosed n H ws) (v .source) (w .source)) ≡ true)
+          → v .source ≡ w .source
       go (inl p) = eqb-true (v .source) (w .source) p
-      go (inr p) = contra (leads-connected (ends v mv .source) (ends w mw .source) r) (not-true (connected n (countedClosed n H ws) (v .source) (w .source)) p)
+      go (inr p) =
+          contra (leads-connected (ends v mv .source) (ends w mw .source) r)
+          (not-true (connected n (countedClosed n H ws) (v .source) (w .source)) p)
 
   pub isolated-of : Isolated n H ws → isolated n H ws ≡ true
   unfolding isolated apart
   isolated-of f =
-      all-of (λ x. allOf (apart x) ws) ws (λ v mv. all-of (apart v) ws (λ w mw. go v w mv mw (dec (connected n (countedClosed n H ws) (v .source) (w .source)))))
+      all-of (λ x. allOf (apart x) ws) ws
+      (λ v mv. all-of (apart v) ws (λ w mw. go v w mv mw (dec (connected n (countedClosed n H ws) (v .source) (w .source)))))
     where
       go : (v w : Path) → v ∈ ws → w ∈ ws
-          → (connected n (countedClosed n H ws) (v .source) (w .source) ≡ true) ⊎ (connected n (countedClosed n H ws) (v .source) (w .source) ≡ false) → apart v w ≡ true
+          → (connected n (countedClosed n H ws) (v .source) (w .source) ≡ true) ⊎ (connected n (countedClosed n H ws) (v .source) (w .source) ≡ false)
+          → apart v w ≡ true
       go v w mv mw (inl p) =
-          or-left (eqb (v .source) (w .source)) _ (eq-eqb (v .source) (w .source) (f v w mv mw (connected-leads (ends v mv .source) (ends w mw .source) p)))
-      go v w mv mw (inr p) = or-right (eqb (v .source) (w .source)) _ (not-of (connected n (countedClosed n H ws) (v .source) (w .source)) p)
+          or-left (eqb (v .source) (w .source)) _
+          (eq-eqb (v .source) (w .source) (f v w mv mw (connected-leads (ends v mv .source) (ends w mw .source) p)))
+      go v w mv mw (inr p) =
+          or-right (eqb (v .source) (w .source)) _ (not-of (connected n (countedClosed n H ws) (v .source) (w .source)) p)
 
 -- ---- what counts as closed
 
-pub counted-stuck : (n : ℕ) (H : PartHealth) (ws : List Path) (i : ℕ) → stuckClosed (H (busBreaker i)) ≡ true → countedClosed n H ws i ≡ true
+pub counted-stuck : (n : ℕ) (H : PartHealth) (ws : List Path) (i : ℕ) → stuckClosed (H (busBreaker i)) ≡ true
+    → countedClosed n H ws i ≡ true
 unfolding countedClosed
 counted-stuck n H ws i e = or-left (stuckClosed (H (busBreaker i))) _ e
 
-pub counted-in : (n : ℕ) (H : PartHealth) {ws : List Path} {w : Path} (i : ℕ) → w ∈ ws → i ∈ pathBusBreakers n w → countedClosed n H ws i ≡ true
+pub counted-in : (n : ℕ) (H : PartHealth) {ws : List Path} {w : Path} (i : ℕ) → w ∈ ws → i ∈ pathBusBreakers n w
+    → countedClosed n H ws i ≡ true
 unfolding countedClosed
 counted-in n H {w = w} i m u = or-right (stuckClosed (H (busBreaker i))) _ (on-in n (busBreaker i) m (line-on n w u))
 
@@ -125,7 +137,8 @@ counted-cons n H ws w i e = go (counted-at n H (w ∷ ws) i e)
     pick v u (inl p) = inr (rw p at u)
     pick v u (inr p) = inl (counted-in n H i p u)
 
-    go : (stuckClosed (H (busBreaker i)) ≡ true) ⊎ ((v : Path) × (v ∈ w ∷ ws) × (i ∈ pathBusBreakers n v)) → (countedClosed n H ws i ≡ true) ⊎ (i ∈ pathBusBreakers n w)
+    go : (stuckClosed (H (busBreaker i)) ≡ true) ⊎ ((v : Path) × (v ∈ w ∷ ws) × (i ∈ pathBusBreakers n v))
+        → (countedClosed n H ws i ≡ true) ⊎ (i ∈ pathBusBreakers n w)
     go (inl p) = inl (counted-stuck n H ws i p)
     go (inr t) = pick (t .0) (t .2) (List·Memᴰ·cases-cons (t .1))
 
@@ -137,10 +150,12 @@ pub record Safe (n : ℕ) (H : PartHealth) (ws : List Path) : Type 0 where
   pub isolates : Isolated n H ws
 
 -- a breaker that counts as closed is not stuck open
-pub counted-usable : {n : ℕ} {H : PartHealth} {ws : List Path} → Safe n H ws → (i : ℕ) → countedClosed n H ws i ≡ true → stuckOpen (H (busBreaker i)) ≡ false
+pub counted-usable : {n : ℕ} {H : PartHealth} {ws : List Path} → Safe n H ws → (i : ℕ) → countedClosed n H ws i ≡ true
+    → stuckOpen (H (busBreaker i)) ≡ false
 counted-usable {n} {H} {ws} s i e = go (counted-at n H ws i e)
   where
-    go : (stuckClosed (H (busBreaker i)) ≡ true) ⊎ ((w : Path) × (w ∈ ws) × (i ∈ pathBusBreakers n w)) → stuckOpen (H (busBreaker i)) ≡ false
+    go : (stuckClosed (H (busBreaker i)) ≡ true) ⊎ ((w : Path) × (w ∈ ws) × (i ∈ pathBusBreakers n w))
+        → stuckOpen (H (busBreaker i)) ≡ false
     go (inl p) = rw (eqb-true (H (busBreaker i)) 3 p)
     go (inr t) = let u = path-at i (s .ends (t .0) (t .1)) (t .2) in s .usables (t .0) (t .1) .line i (u .0) (u .1)
 
@@ -151,10 +166,12 @@ unfolding permitted
 permitted-at {n} {H} {ws} {w} ends e =
     (usable-at (ends w (List·Memᴰ·head refl)) (and-left (usable n H w) _ e), isolated-at n H (w ∷ ws) ends (and-right (usable n H w) _ e))
 
-pub permitted-of : {n : ℕ} {H : PartHealth} {ws : List Path} {w : Path} → ((v : Path) → v ∈ w ∷ ws → Ends n v) → Usable n H w → Isolated n H (w ∷ ws)
+pub permitted-of : {n : ℕ} {H : PartHealth} {ws : List Path} {w : Path} → ((v : Path) → v ∈ w ∷ ws → Ends n v) → Usable n H w
+    → Isolated n H (w ∷ ws)
     → permitted n H ws w ≡ true
 unfolding permitted
-permitted-of {n} {H} {ws} {w} ends u i = and-intro (usable n H w) _ (usable-of (ends w (List·Memᴰ·head refl)) u) (isolated-of n H (w ∷ ws) ends i)
+permitted-of {n} {H} {ws} {w} ends u i =
+    and-intro (usable n H w) _ (usable-of (ends w (List·Memᴰ·head refl)) u) (isolated-of n H (w ∷ ws) ends i)
 
 -- a chosen path leads to its bus
 pub chosen-ends : (n : ℕ) (H : PartHealth) (ws : List Path) (b : ℕ) (w : Path) → b < n → choose n H ws b ≡ some w → Ends n w × (w .bus ≡ b)
@@ -167,7 +184,8 @@ chosen-ends n H ws b w hb e =
 pub safe-none : (n : ℕ) (H : PartHealth) → Safe n H []
 safe-none n H = record { ends = λ w m. absurd (List·Memᴰ·not-nil m); usables = λ w m. absurd (List·Memᴰ·not-nil m); isolates = λ v w m. absurd (List·Memᴰ·not-nil m) }
 
-pub safe-cons : {n : ℕ} {H : PartHealth} {ws : List Path} {w : Path} → Safe n H ws → Ends n w → permitted n H ws w ≡ true → Safe n H (w ∷ ws)
+pub safe-cons : {n : ℕ} {H : PartHealth} {ws : List Path} {w : Path} → Safe n H ws → Ends n w → permitted n H ws w ≡ true
+    → Safe n H (w ∷ ws)
 safe-cons {n} {H} s h e =
     let ends = all-cons (Ends n) h (s .ends) in
     let t = permitted-at ends e in

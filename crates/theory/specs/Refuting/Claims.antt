@@ -1,9 +1,9 @@
 -- For every claim of demands 2 and 3 a test on a list of calls that can be computed. A controller that fails it does not meet the
 -- demand: see Refuting. Buses are indices from 0.
 use mathlib.Core.Bool.{Bool, true, false, not, _&&_, _||_, cond, Bool·beq}
-use mathlib.Core.List.{List, [], _∷_, _++_, map}
+use mathlib.Core.List.{List, [], _∷_, map}
 use mathlib.Core.Option.{Option, none, some}
-use Prim.Native.Nat.{ℕ, zero, suc, _+_, _*_}
+use Prim.Native.Nat.{ℕ, _+_, _*_}
 use lib.Dec.{ltb, eqb}
 use lib.ListN.{length, getD, take, drop}
 use Rattle.model.specs.declared.Part.{Part}
@@ -22,9 +22,10 @@ use Rattle.model.specs.Sheet.{opening, closing, sheet}
 use Rattle.model.specs.Reports.{healthOf, commandsOf, blankRing}
 use Rattle.model.specs.Refusals.{notOfRing, tooShort, startRefusal}
 use Rattle.model.specs.Answers.{Reply, allDark}
-use Rattle.theory.specs.Demand3.{Controller, PlantState, freshPlant, afterWord, afterWords, Operation, operation, performAll, Phases, sheetLength, decode}
-use Rattle.theory.specs.Demand3.{Call, step, Calls, _then_, replyTo, words, lent, isServed, World, excepted, shownAt, wordRefusal}
-use Rattle.theory.specs.Runs.{ordered, bothPhases, run}
+use Rattle.theory.specs.Statements.Demand3.{Controller, PlantState, freshPlant, afterWord, afterWords, Operation, operation, performAll, Phases}
+use Rattle.theory.specs.Statements.Demand3.{sheetLength, decode, Call, step, Calls, _then_, replyTo, words, lent, isServed, World, excepted}
+use Rattle.theory.specs.Statements.Demand3.{shownAt, wordRefusal}
+use Rattle.theory.specs.Refuting.Runs.{ordered, bothPhases, run}
 
 -- a start, the calls after it, and one call more, on which a claim is tested
 pub record Instance : Type 0 where
@@ -180,7 +181,8 @@ unfoldable pub otherFirst : ℕ → PlantState → Phases → Bool
 otherFirst n P ph = differ (operationsDigest (ph .first)) (operationsDigest (map (operation false) (opening n (P .last) (newCommands n P))))
 
 unfoldable pub otherSecond : ℕ → PlantState → Phases → Bool
-otherSecond n P ph = differ (operationsDigest (ph .second)) (operationsDigest (map (operation true) (closing n (P .last) (newCommands n P))))
+otherSecond n P ph =
+    differ (operationsDigest (ph .second)) (operationsDigest (map (operation true) (closing n (P .last) (newCommands n P))))
 
 -- interrupted in a phase after some of its operations, at a moment that is not excepted
 unfoldable pub clashInFirst : ℕ → Bool → ℕ → List Report → PlantState → Phases → Bool
@@ -301,9 +303,11 @@ module _ (c : Controller) (i : Instance) where
   fails2 start-path = isServed startOf && anyOf (otherChoice (i .size) freshPlant startOf) (below (i .size))
   fails2 call-path = atServed (λ P reply. anyOf (otherChoice (i .size) P reply) (below (i .size)))
   fails2 opens = atPhases (λ P ph. anyOf (extraOpen (i .size) P) (ph .first))
-  fails2 all-open = atPhases (λ P ph. anyOf (λ p. not (hasOperation false p (ph .first))) (opening (i .size) (P .last) (newCommands (i .size) P)))
+  fails2 all-open =
+      atPhases (λ P ph. anyOf (λ p. not (hasOperation false p (ph .first))) (opening (i .size) (P .last) (newCommands (i .size) P)))
   fails2 closes = atPhases (λ P ph. anyOf (extraClose (i .size) P) (ph .second))
-  fails2 all-close = atPhases (λ P ph. anyOf (λ p. not (hasOperation true p (ph .second))) (closing (i .size) (P .last) (newCommands (i .size) P)))
+  fails2 all-close =
+      atPhases (λ P ph. anyOf (λ p. not (hasOperation true p (ph .second))) (closing (i .size) (P .last) (newCommands (i .size) P)))
   fails2 opens-rising = atPhases (λ P ph. not (rises (map (λ o. partCode (o .part)) (ph .first))))
   fails2 closes-rising = atPhases (λ P ph. not (rises (map (λ o. partCode (o .part)) (ph .second))))
   fails2 brings-about = atPhases (λ P ph. anyOf (otherOutcome (i .size) P (bothPhases (i .backward) ph P)) (parts (i .size)))
