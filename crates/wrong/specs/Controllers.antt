@@ -423,11 +423,17 @@ right-fails-none-2 i k = rw right-is (none-true (fails2 controller i k) (refutes
 
 -- ---- the order of operations
 
+-- that controller, interrupted after k operations of either phase in the sheet's order
+unfoldable pub clashesNowhere : ℕ → Bool
+clashesNowhere k =
+    let c = stepWrites 2 2 ((32, 0) ∷ (64, 1) ∷ (64, 0) ∷ (32, 1) ∷ []) in
+    let i = halted k (after [] breaker2Open) in
+    not (fails3 c i claim.clash-in-first) && not (fails3 c i claim.clash-in-second)
+
 -- the order of the operations is what is wrong with the fourth and fifth controller of `wrongMoments`: in the sheet's own order they
 -- clash nowhere
-in-sheet-order : allOf (λ k. not (fails3 (stepWrites 2 2 ((32, 0) ∷ (64, 1) ∷ (64, 0) ∷ (32, 1) ∷ [])) (halted k (after [] breaker2Open)) claim.clash-in-first)
-    && not (fails3 (stepWrites 2 2 ((32, 0) ∷ (64, 1) ∷ (64, 0) ∷ (32, 1) ∷ [])) (halted k (after [] breaker2Open)) claim.clash-in-second)) (0 ∷ 1 ∷ 2 ∷ []) ≡ true
-unfolding below keep first anyOf allOf partCode samePart parts healthOfKind next up arc connected feeds feeders feedBy busFeed others
+in-sheet-order : allOf clashesNowhere (0 ∷ 1 ∷ 2 ∷ []) ≡ true
+unfolding clashesNowhere below keep first anyOf allOf partCode samePart parts healthOfKind next up arc connected feeds feeders feedBy busFeed others
     sources pathBusBreakers pathBreakers pathParts highRises pathsFrom paths onPaths usable countedClosed isolated permitted choose addPath
     chosen plan commands choiceOf choices opening closing sheetOf sheet written partNamed reported places healthOf commandsOf healthPlaces
     commandPlaces blankRing told planned withPlan firstMet sizeOutside notOfRing wordOfOtherKind generatorFitAgain tooShort healthOutside
@@ -447,7 +453,9 @@ in-sheet-order = refl
 -- ---- the exception is needed
 
 -- n = 3 after the start, BB1 stuck closed: before the first operation, at an excepted moment, B1 is fed by two generators
-exception-needed : (P : PlantState) × Interrupted controller 3 room (nothing then step breaker1Closed room) P true × (busFeed 3 (P .health) (P .last) 0 ≡ feed.Clash 1 2)
+exception-needed : (P : PlantState)
+    × Interrupted controller 3 room (nothing then step breaker1Closed room) P true
+    × (busFeed 3 (P .health) (P .last) 0 ≡ feed.Clash 1 2)
 unfolding below keep first anyOf allOf partCode samePart parts healthOfKind next up arc connected feeds feeders feedBy busFeed others
     sources pathBusBreakers pathBreakers pathParts highRises pathsFrom paths onPaths usable countedClosed isolated permitted choose addPath
     chosen plan commands choiceOf choices opening closing sheetOf sheet written partNamed reported places healthOf commandsOf healthPlaces

@@ -211,10 +211,14 @@ whenServed f reply = cond (isServed reply) (f reply) reply
 
 -- a reply with another record, other choices, another buffer
 unfoldable pub withRing : (Ring → Ring) → Reply → Reply
-withRing f reply = record { answer = record { outcome = reply .answer .outcome; ring = f (reply .answer .ring); choices = reply .answer .choices }; buffer = reply .buffer }
+withRing f reply =
+    let a = reply .answer in
+    record { answer = record { outcome = a .outcome; ring = f (a .ring); choices = a .choices }; buffer = reply .buffer }
 
 unfoldable pub withChoices : List BusChoice → Reply → Reply
-withChoices cs reply = record { answer = record { outcome = reply .answer .outcome; ring = reply .answer .ring; choices = cs }; buffer = reply .buffer }
+withChoices cs reply =
+    let a = reply .answer in
+    record { answer = record { outcome = a .outcome; ring = a .ring; choices = cs }; buffer = reply .buffer }
 
 unfoldable pub withBuffer : (List ℕ → List ℕ) → Reply → Reply
 withBuffer f reply = record { answer = reply .answer; buffer = f (reply .buffer) }

@@ -182,7 +182,11 @@ chosen-ends n H ws b w hb e =
     (record { source = t .0; bus = rw (t .1) hb }, t .1)
 
 pub safe-none : (n : ℕ) (H : PartHealth) → Safe n H []
-safe-none n H = record { ends = λ w m. absurd (List·Memᴰ·not-nil m); usables = λ w m. absurd (List·Memᴰ·not-nil m); isolates = λ v w m. absurd (List·Memᴰ·not-nil m) }
+safe-none n H = record {
+  ends = λ w m. absurd (List·Memᴰ·not-nil m);
+  usables = λ w m. absurd (List·Memᴰ·not-nil m);
+  isolates = λ v w m. absurd (List·Memᴰ·not-nil m);
+}
 
 pub safe-cons : {n : ℕ} {H : PartHealth} {ws : List Path} {w : Path} → Safe n H ws → Ends n w → permitted n H ws w ≡ true
     → Safe n H (w ∷ ws)

@@ -147,7 +147,8 @@ module _ (n : ℕ) (H : PartHealth) (ws : List Path) (safe : Safe n H ws) (k : �
             → v .source ≡ w .source
         distinct v w s t l = go (along g hg (countedClosed n H (p ∷ ws)) split l) s t
           where
-            go : Leads n (countedClosed n H ws) (v .source) (w .source) ⊎ (Near n (countedClosed n H ws) (Inside n d g) (v .source) × Near n (countedClosed n H ws) (Inside n d g) (w .source))
+            go : Leads n (countedClosed n H ws) (v .source) (w .source)
+                ⊎ (Near n (countedClosed n H ws) (Inside n d g) (v .source) × Near n (countedClosed n H ws) (Inside n d g) (w .source))
                 → (v ≡ p) ⊎ (v ∈ ws) → (w ≡ p) ⊎ (w ∈ ws) → v .source ≡ w .source
             go x (inl a) (inl b) = ap (λ (q : Path). q .source) (a ∙ sym b)
             go (inl x) (inr a) (inr b) = safe .isolates v w a b x
@@ -202,7 +203,8 @@ module _ (n : ℕ) (H : PartHealth) (ws : List Path) (safe : Safe n H ws) (k : �
                 let e : t .0 ≡ v = arm .same (t .0) v (t .1 .0) hv (omega (arith, t .1 .1, nearest (t .0) (t .1 .0) (reached-of (t .0) mx (t .1 .0) (t .2)))) in
                 rw e at (t .2)
 
-            go : Leads n (countedClosed n H ws) (a .source) (b .source) ⊎ (Near n (countedClosed n H ws) (Inside n d v) (a .source) × Near n (countedClosed n H ws) (Inside n d v) (b .source))
+            go : Leads n (countedClosed n H ws) (a .source) (b .source)
+                ⊎ (Near n (countedClosed n H ws) (Inside n d v) (a .source) × Near n (countedClosed n H ws) (Inside n d v) (b .source))
                 → a .source ≡ b .source
             go (inl t) = safe .isolates a b ma mb t
             go (inr t) = safe .isolates a b ma mb (leads-trans (reach a ma (t .0)) (leads-sym (reach b mb (t .1))))

@@ -46,7 +46,8 @@ module _ (n : ℕ) (C : ℕ → Bool) where
 
   arc-one : (a : ℕ) → a < n → C a ≡ true → a ≢ next n a → Arc n C a (next n a)
   arc-one a ha c ne i h l =
-      let z : i ≡ a = up-inj n a i a ha h ha (omega (arith, up-refl n a ha, up-next n a (next n a) ha (next-lt n a ha) ne, up-refl n (next n a) (next-lt n a ha))) in
+      let z : i ≡ a = up-inj n a i a ha h ha
+      (omega (arith, up-refl n a ha, up-next n a (next n a) ha (next-lt n a ha) ne, up-refl n (next n a) (next-lt n a ha))) in
       rw z c
 
   arc-longer : (a b : ℕ) → a < n → b < n → C a ≡ true → a ≢ b → Arc n C (next n a) b → Arc n C a b

@@ -121,7 +121,8 @@ feed-ext n H K C D same both b hb = ap feedBy (keep-ext (feeds n H C b) (feeds n
     one : (g : ℕ) → g < n → feeds n H C b g ≡ feeds n K D b g
     one g hg =
         let r = at-index n g hg in
-        let near : running H C g && closed (H (generatorBreaker g)) (C (generatorBreaker g)) ≡ running K D g && closed (K (generatorBreaker g)) (D (generatorBreaker g)) =
+        let near : running H C g && closed (H (generatorBreaker g)) (C (generatorBreaker g))
+        ≡ running K D g && closed (K (generatorBreaker g)) (D (generatorBreaker g)) =
         rw (same (generator g) r, same (generatorBreaker g) r, both (generator g) r, both (generatorBreaker g) r) in
         ap₂ _&&_ near
         (connected-ext n (busBreakerClosed H C) (busBreakerClosed K D) g b hg hb

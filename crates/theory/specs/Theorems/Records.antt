@@ -345,7 +345,9 @@ module _ (ring : Ring) (arrays : Arrays ring) (good : badRecord ring ≡ false) 
 
   good-made : Made ring
   good-made =
-      rw is-ring (makes (ring .n) ((good-size ring good) .0) ((good-size ring good) .1) (healthOf (ring .health)) (of-kind ring good) (parts (ring .n)) (parts-at (ring .n)))
+      let size = good-size ring good in
+      rw is-ring
+      (makes (ring .n) (size .0) (size .1) (healthOf (ring .health)) (of-kind ring good) (parts (ring .n)) (parts-at (ring .n)))
 
 -- "record not one that start and steps make"
 pub made-exactly : (ring : Ring) → Arrays ring → badRecord ring ≡ false ↔ Made ring
