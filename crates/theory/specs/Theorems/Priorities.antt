@@ -65,8 +65,11 @@ rest-at n b g m =
 
 -- G2 and G1, then others
 two-first : {xs : List ℕ} → Distinct xs → ((g : ℕ) → g ∈ xs → 2 ≤ g) → Distinct (1 ∷ 0 ∷ xs)
-two-first {xs} d f = one-more (λ m. one (List·Memᴰ·cases-cons m)) (one-more (λ m. omega (arith, f 0 m)) d)
+two-first {xs} d f = one-more (λ m. one (List·Memᴰ·cases-cons m)) (one-more zero-out d)
   where
+    zero-out : 0 ∈ xs → ⊥
+    zero-out m = omega (arith, f 0 m)
+
     one : (_≡_ {A = ℕ} 1 0) ⊎ (1 ∈ xs) → ⊥
     one (inl e) = omega arith
     one (inr m) = omega (arith, f 1 m)
