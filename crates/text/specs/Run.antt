@@ -160,8 +160,8 @@ module _ (f : List ℕ) (served : fileRefusal f ≡ 0) where
 
   -- the answer to report i as the code asks for it: of the ring's size, and of the two stretches of a file that has m reports
   module _ {i m : ℕ} {ring : Ring} {a : ReportAnswer} (few : i < fileCount f) (count : m ≡ (length f - 3) / 2)
-    (state : ring ≡ withPlan (runRing f i))
-    (answer : a ≡ reportAt (ring .n) (take (3 + m - 3) (drop 3 f)) (take (length f - (3 + m)) (drop (3 + m) f)) i) where
+      (state : ring ≡ withPlan (runRing f i))
+      (answer : a ≡ reportAt (ring .n) (take (3 + m - 3) (drop 3 f)) (take (length f - (3 + m)) (drop (3 + m) f)) i) where
     report-is : (a ≡ reportAt (fileSize f) (fileCodes f) (fileWords f) i) × (ring .n ≡ fileSize f) × (badRecord ring ≡ false)
     unfolding withPlan
     report-is =
