@@ -26,10 +26,10 @@ use Rattle.model.specs.Reports.{places, healthOf, commandPlaces}
 use Rattle.model.specs.Laws.Tests.{iff, dec, dec-lt, below-other, below-last}
 use Rattle.model.specs.Laws.Lists.{any-at, any-in, first-at, first-ext}
 use Rattle.model.specs.Laws.Parts.{same-eq, same-refl, places-at, places-ext, places-set, set-places, is-places}
-use Rattle.theory.specs.Connected.{connected-ext}
-use Rattle.theory.specs.Paths.{Ends, path-at, path-in, source-on, breaker-on, line-on, generator-on, generator-breaker-on, bus-breaker-on}
-use Rattle.theory.specs.Paths.{pathTo, tried-at}
-use Rattle.theory.specs.Choosing.{safe-chosen, chosen-ends}
+use Rattle.theory.specs.Theorems.Connected.{connected-ext}
+use Rattle.theory.specs.Proofs.Paths.{Ends, path-at, path-in, source-on, breaker-on, line-on, generator-on, generator-breaker-on, bus-breaker-on}
+use Rattle.theory.specs.Proofs.Paths.{pathTo, tried-at}
+use Rattle.theory.specs.Proofs.Choosing.{safe-chosen, chosen-ends}
 use Rattle.planner.specs.declared.progress.Progress.{Progress}
 use Rattle.planner.specs.declared.search.Span.{Span}
 use Rattle.planner.specs.declared.search.Found.{Found}

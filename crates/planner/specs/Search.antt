@@ -16,9 +16,9 @@ use Rattle.model.specs.Lists.{first}
 use Rattle.model.specs.Plant.{up}
 use Rattle.model.specs.Priority.{Path, sources, highRises, pathsFrom, paths}
 use Rattle.model.specs.Laws.Tests.{contra, and-left, and-right, and-intro, dec, dec-eq, dec-lt}
-use Rattle.theory.specs.Geometry.{up-lt}
-use Rattle.theory.specs.Priorities.{sources-length}
-use Rattle.theory.specs.Paths.{lower, upper, Ends, lower-lt, upper-lt, pathTo}
+use Rattle.theory.specs.Proofs.Geometry.{up-lt}
+use Rattle.theory.specs.Theorems.Priorities.{sources-length}
+use Rattle.theory.specs.Proofs.Paths.{lower, upper, Ends, lower-lt, upper-lt, pathTo}
 use Rattle.planner.specs.declared.search.Span.{Span}
 use Rattle.planner.specs.declared.search.Found.{Found}
 use Rattle.planner.specs.declared.search.Found.the-variants as found

@@ -5,7 +5,7 @@ ghost use mathlib.Core.Option.{some};
 ghost use Prim.Native.Nat.{_+_, _≤_, _<_};
 ghost use Rattle.model.specs.Choosing.{choiceOf};
 ghost use Rattle.model.specs.Reports.{places, healthOf};
-ghost use Rattle.theory.specs.Paths.{pathTo};
+ghost use Rattle.theory.specs.Proofs.Paths.{pathTo};
 ghost use Rattle.planner.specs.Owner.{mayFeed};
 ghost use Rattle.planner.specs.Progress.{served, taken, darkened};
 use super::search;

@@ -4,7 +4,7 @@ ghost use mathlib.Core.Path.{_≡_};
 ghost use Prim.Native.Nat.{_≤_, _<_};
 ghost use Rattle.model.specs.Lists.{first};
 ghost use Rattle.model.specs.Priority.{highRises, paths};
-ghost use Rattle.theory.specs.Paths.{pathTo};
+ghost use Rattle.theory.specs.Proofs.Paths.{pathTo};
 ghost use Rattle.planner.specs.Search.{passesBy, triedBy, candidateBy, pathFound, pathCount, pathRises, spanOf};
 use super::sources;
 use super::walk;

@@ -16,7 +16,7 @@ use Rattle.model.specs.Laws.Tests.{and-right}
 use Rattle.model.specs.Laws.Lists.{any-ext}
 use Rattle.model.specs.Laws.Parts.{parts-at, places-ext}
 use Rattle.model.specs.Laws.Tests.{cond-ext}
-use Rattle.theory.specs.Locality.{Agree, feed-ext}
+use Rattle.theory.specs.Theorems.Locality.{Agree, feed-ext}
 
 -- the refusal, and the whole answer
 pub refusal-ext : (n : ℕ) (H K : PartHealth) → Agree n H K → feedsRefusal n H ≡ feedsRefusal n K

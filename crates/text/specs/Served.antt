@@ -24,9 +24,9 @@ use Rattle.model.specs.Text.{transitionLine}
 use Rattle.model.specs.Laws.Sheet.{sheet-fits, sheetOf-length}
 use Rattle.model.specs.Laws.Refusals.{inside, good-size}
 use Rattle.model.specs.Laws.Choosing.{choices-at, choice-source}
-use Rattle.theory.specs.Choosing.{chosen-ends}
-use Rattle.theory.specs.Operations.{opening-at, closing-at}
-use Rattle.theory.specs.Records.{started, step-good, made-good}
+use Rattle.theory.specs.Proofs.Choosing.{chosen-ends}
+use Rattle.theory.specs.Proofs.Operations.{opening-at, closing-at}
+use Rattle.theory.specs.Theorems.Records.{started, step-good, made-good}
 use Rattle.text.specs.Buses.{AllNamed, Named}
 use Rattle.text.specs.SheetLine.{SheetBytes, sheetLine, sheet-is, sheet-line}
 use Rattle.text.specs.Lines.{Stored, Shown}

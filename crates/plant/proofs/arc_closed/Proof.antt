@@ -8,7 +8,7 @@ use borrow.Author.Tests.{not-true, not-false}
 use Rattle.model.specs.Lists.{allOf}
 use Rattle.model.specs.Plant.{busBreakerClosed, up, arc}
 use Rattle.model.specs.Reports.{healthOf, commandsOf}
-use Rattle.theory.specs.Geometry.{next-lt, up-next}
+use Rattle.theory.specs.Proofs.Geometry.{next-lt, up-next}
 use Rattle.plant.specs.Walk.{walk-stop, walk-on, walk-end}
 use Rattle.plant.proofs.arc_closed.Statement.{statement}
 use Rattle.plant.proofs.arc_closed.Tie as tie

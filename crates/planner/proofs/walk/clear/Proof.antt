@@ -5,7 +5,7 @@ use Rattle.planner.proofs.walk.clear.Tie as tie
 use mathlib.Core.Path.{_≡_, refl, sym, _∙_}
 use Prim.Native.Nat.{_<_}
 use borrow.Author.Tests.{eq-eqb, ne-eqb, not-true, not-false}
-use Rattle.theory.specs.Geometry.{next-lt}
+use Rattle.theory.specs.Proofs.Geometry.{next-lt}
 use Rattle.planner.specs.Arrays.{at}
 use Rattle.planner.specs.Walk.{clear, clear-open, clear-met, clear-step, clear-end}
 
