@@ -94,7 +94,8 @@ next-test n k r p q = go (dec-eq (k + 1) n)
 
 -- 2: "n below 3 or above 20"
 module _ (n : ℕ) (r : Bool) where
-  pub size-test : (n < smallest → r ≡ false → ⊥) → (largest < n → r ≡ false → ⊥) → (smallest ≤ n → n ≤ largest → r ≡ true → ⊥) → r ≡ sizeOutside n
+  pub size-test : (n < smallest → r ≡ false → ⊥) → (largest < n → r ≡ false → ⊥) → (smallest ≤ n → n ≤ largest → r ≡ true → ⊥)
+      → r ≡ sizeOutside n
   size-test low high within = go (dec-lt n smallest) (dec-lt largest n)
     where
       go : (n < smallest) ⊎ (smallest ≤ n) → (largest < n) ⊎ (n ≤ largest) → r ≡ sizeOutside n

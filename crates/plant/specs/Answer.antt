@@ -38,18 +38,23 @@ module _ (n : ℕ) (h : Health) (c : Commands) where
   unfolding feedsAnswer feedValues busFeed places busValues
   buses-values =
       map-map (λ bus. feedSources (bus .feed)) _ (below largest)
-      ∙ map-ext _ _ (below largest) (λ b m. feed-sources (eqb (feedsRefusal n (healthOf h)) 0 && ltb b n) (feeders n (healthOf h) (commandsOf c) b))
+      ∙ map-ext _ _ (below largest) (λ b m. feed-sources (eqb (feedsRefusal n (healthOf h)) 0 && ltb b n)
+      (feeders n (healthOf h) (commandsOf c) b))
 
   -- the answer, its number and its values
   abbrev pub Answered : FeedsAnswer → Type 0
   Answered r =
-      (r ≡ feedsAnswer n h c) × ((outcomeNumber (r .outcome) ≡ feedsRefusal n (healthOf h)) × (feedValues (r .buses) ≡ places (busValues n h c)))
+      (r ≡ feedsAnswer n h c) × ((outcomeNumber (r .outcome) ≡ feedsRefusal n (healthOf h))
+      × (feedValues (r .buses) ≡ places (busValues n h c)))
 
   pub answered : (r : FeedsAnswer) → r ≡ feedsAnswer n h c → Answered r
   unfolding feedsAnswer
   answered r e = (
     e,
-    (ap (λ a. outcomeNumber (a .outcome)) e ∙ outcome-number (feedsRefusal n (healthOf h)), ap (λ a. feedValues (a .buses)) e ∙ buses-values),
+    (
+      ap (λ a. outcomeNumber (a .outcome)) e ∙ outcome-number (feedsRefusal n (healthOf h)),
+      ap (λ a. feedValues (a .buses)) e ∙ buses-values,
+    ),
   )
 
   -- refused by 2, by 9, or served

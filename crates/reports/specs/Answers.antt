@@ -33,7 +33,8 @@ part-gives n c r e = (e, rw e (go (partNamed n c) refl))
     go (some p) q = ap (λ k. (0, k ∷ [])) (code-named n c p q .1)
 
 -- a code of a range
-pub part-in-range : (n c : ℕ) (p : Part) (r : PartAnswer) → r ≡ partAnswer (ofRing n p) → InRing largest p → firstCode p + number p ≡ c + 1 → PartAnswered n c r
+pub part-in-range : (n c : ℕ) (p : Part) (r : PartAnswer) → r ≡ partAnswer (ofRing n p) → InRing largest p
+    → firstCode p + number p ≡ c + 1 → PartAnswered n c r
 part-in-range n c p r e h q = part-gives n c r (rw (in-range n c p h q) e)
 
 -- a code of no range

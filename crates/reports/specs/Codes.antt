@@ -43,7 +43,8 @@ unfoldable pub ofRing : ℕ → Part → Option Part
 ofRing n p = cond (notOfRing n p) none (some p)
 
 -- 5 of a part's number, by cases: however the code words the test
-pub ring-test : (n : ℕ) (p : Part) (r : Bool) → (number p < 1 → r ≡ false → ⊥) → (n < number p → r ≡ false → ⊥) → (largest < number p → r ≡ false → ⊥)
+pub ring-test : (n : ℕ) (p : Part) (r : Bool) → (number p < 1 → r ≡ false → ⊥) → (n < number p → r ≡ false → ⊥)
+    → (largest < number p → r ≡ false → ⊥)
     → (0 < number p → number p ≤ n → number p ≤ largest → r ≡ true → ⊥) → r ≡ notOfRing n p
 unfolding notOfRing
 ring-test n p r low above beyond within = go (dec-lt (number p) 1) (dec-lt n (number p)) (dec-lt largest (number p))
@@ -52,7 +53,8 @@ ring-test n p r low above beyond within = go (dec-lt (number p) 1) (dec-lt n (nu
     go (inl l) m k = rw (lt-ltb (number p) 1) (is-true r (low l))
     go (inr l) (inl m) k = rw (le-ltb (number p) 1, lt-ltb (min n largest) (number p) (omega arith)) (is-true r (above m))
     go (inr l) (inr m) (inl k) = rw (le-ltb (number p) 1, lt-ltb (min n largest) (number p) (omega arith)) (is-true r (beyond k))
-    go (inr l) (inr m) (inr k) = rw (le-ltb (number p) 1, le-ltb (min n largest) (number p) (omega arith)) (is-false r (within (omega arith) m k))
+    go (inr l) (inr m) (inr k) = rw (le-ltb (number p) 1, le-ltb (min n largest) (number p) (omega arith))
+        (is-false r (within (omega arith) m k))
 
 -- the code of a part of the largest ring names it, if a ring of n has it
 code-of-ring : (n : ℕ) (p : Part) → InRing largest p → partNamed n (partCode p) ≡ ofRing n p
@@ -95,9 +97,12 @@ unfolding partCode ofRing notOfRing
 code-reads n p h = go (dec-lt largest (number p))
   where
     outside : (q : Part) → InRing 32 q → largest < number q → partNamed n (partCode q) ≡ none
-    outside (Generator k) i l = outside-ranges n _ (omega (arith, index-less k)) (λ j. absurd (omega (arith, index-less k))) (λ j. absurd (omega (arith, index-less k)))
-    outside (GeneratorBreaker k) i l = outside-ranges n _ (omega (arith, index-less k)) (λ j. omega (arith, index-less k)) (λ j. absurd (omega (arith, index-less k)))
-    outside (BusBreaker k) i l = outside-ranges n _ (omega (arith, index-less k)) (λ j. omega (arith, index-less k)) (λ j. omega (arith, index-less k))
+    outside (Generator k) i l = outside-ranges n _ (omega (arith, index-less k)) (λ j. absurd (omega (arith, index-less k)))
+        (λ j. absurd (omega (arith, index-less k)))
+    outside (GeneratorBreaker k) i l =
+        outside-ranges n _ (omega (arith, index-less k)) (λ j. omega (arith, index-less k)) (λ j. absurd (omega (arith, index-less k)))
+    outside (BusBreaker k) i l = outside-ranges n _ (omega (arith, index-less k)) (λ j. omega (arith, index-less k))
+        (λ j. omega (arith, index-less k))
 
     go : (largest < number p) ⊎ (number p ≤ largest) → partNamed n (partCode p) ≡ ofRing n p
     go (inl l) = rw (lt-ltb (min n largest) (number p) (omega arith), le-ltb (number p) 1 (h .0)) (outside p h l)
@@ -121,7 +126,8 @@ word-named v w e = eqb-true (wordNumber w) v (first-at (λ u. eqb (wordNumber u)
 -- a number above those of the words names none
 pub no-word : (v : ℕ) → 3 < v → wordNamed v ≡ none
 unfolding wordNamed
-no-word v h = first-none (λ u. eqb (wordNumber u) v) (Fit ∷ StuckOff ∷ StuckOpen ∷ StuckClosed ∷ []) (λ u m. ne-eqb (wordNumber u) v (other u))
+no-word v h = first-none (λ u. eqb (wordNumber u) v) (Fit ∷ StuckOff ∷ StuckOpen ∷ StuckClosed ∷ [])
+    (λ u m. ne-eqb (wordNumber u) v (other u))
   where
     other : (w : Word) → wordNumber w ≡ v → ⊥
     other Fit e = omega arith

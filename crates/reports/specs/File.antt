@@ -53,7 +53,8 @@ head-inside : (l n m : ℕ) → 3 ≤ l → sizeOutside n ≡ false → headRefu
 unfolding headRefusal firstMet
 head-inside l n m h p = rw (le-ltb l 3, p)
 
-head-then-reports : (f : List ℕ) → fileRefusal f ≡ orElse (headRefusal (length f) (fileSize f) (fileCount f)) (reportsRefusal (fileSize f) (fileCodes f) (fileWords f))
+head-then-reports : (f : List ℕ)
+    → fileRefusal f ≡ orElse (headRefusal (length f) (fileSize f) (fileCount f)) (reportsRefusal (fileSize f) (fileCodes f) (fileWords f))
 unfolding headRefusal fileRefusal
 head-then-reports f = refl
 
@@ -126,7 +127,8 @@ long-head l n m h = go (dec (sizeOutside n)) (dec-lt 4096 m)
     go : (sizeOutside n ≡ true) ⊎ (sizeOutside n ≡ false) → (4096 < m) ⊎ (m ≤ 4096) → headRefusal l n m ≡ longRefusal n m
     go (inl p) q = rw p (head-outside l n m (omega arith) p)
     go (inr p) (inl q) = rw (p, lt-ltb 4096 m) (head-inside l n m (omega arith) p ∙ rw (lt-ltb 4096 m))
-    go (inr p) (inr q) = rw (p, le-ltb 4096 m) (head-inside l n m (omega arith) p ∙ rw (le-ltb 4096 m, ne-eqb l (3 + 2 * m) (λ e. omega arith)))
+    go (inr p) (inr q) = rw (p, le-ltb 4096 m)
+        (head-inside l n m (omega arith) p ∙ rw (le-ltb 4096 m, ne-eqb l (3 + 2 * m) (λ e. omega arith)))
 
 long-refused : (n m : ℕ) → eqb (longRefusal n m) 0 ≡ false
 unfolding longRefusal
@@ -152,7 +154,8 @@ module _ {A : Type 0} (served : List ℕ → A) (refused : ℕ → A) where
       go : (readSize < length f) ⊎ (length f ≤ readSize) → made (take readSize f) ≡ made f
       go (inl h) =
           made-long (take readSize f) (rw (length-take-le readSize f (omega arith)) (omega arith))
-          ∙ rw (getD-take readSize f 0 0 (omega arith), getD-take readSize f 1 0 (omega arith), getD-take readSize f 2 0 (omega arith)) (sym (made-long f (omega arith)))
+          ∙ rw (getD-take readSize f 0 0 (omega arith), getD-take readSize f 1 0 (omega arith), getD-take readSize f 2 0 (omega arith))
+          (sym (made-long f (omega arith)))
       go (inr h) = rw (take-all readSize f)
 
 -- what is read of a file, however long, has its answer

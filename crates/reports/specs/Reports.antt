@@ -51,7 +51,8 @@ module _ (n c v : ℕ) (a : PartAnswer) (code-is : a ≡ partAnswer (partNamed n
     unfolding reportAnswer reportOf partAnswer wordAnswer
     word-refused k e = go (partNamed n c) (wordNamed v) (sym part-is ∙ code-is) (sym e ∙ word-is)
       where
-        go : (o : Option Part) (u : Option Word) → part.Named p ≡ partAnswer o → word.Refused k ≡ wordAnswer u → report.Refused k ≡ reportOf n o u
+        go : (o : Option Part) (u : Option Word) → part.Named p ≡ partAnswer o → word.Refused k ≡ wordAnswer u
+            → report.Refused k ≡ reportOf n o u
         go none u q s = cc
         go (some x) none q s = cc
         go (some x) (some w) q s = cc
@@ -60,7 +61,8 @@ module _ (n c v : ℕ) (a : PartAnswer) (code-is : a ≡ partAnswer (partNamed n
     unfolding reportAnswer partAnswer wordAnswer
     both-named w e = go (partNamed n c) (wordNamed v) (sym part-is ∙ code-is) (sym e ∙ word-is)
       where
-        go : (o : Option Part) (u : Option Word) → part.Named p ≡ partAnswer o → word.Named w ≡ wordAnswer u → reportOf n (some p) (some w) ≡ reportOf n o u
+        go : (o : Option Part) (u : Option Word) → part.Named p ≡ partAnswer o → word.Named w ≡ wordAnswer u
+            → reportOf n (some p) (some w) ≡ reportOf n o u
         go none u q s = cc
         go (some x) none q s = cc
         go (some x) (some y) q s = cc
@@ -71,7 +73,8 @@ unfolding reportAnswer reportRefusal reportOf numbered
 answer-values n c v = go (partNamed n c) (wordNamed v) refl refl
   where
     by-number : (k : ℕ) (r : Report) → partCode (r .part) ≡ c → wordNumber (r .word) ≡ v → (eqb k 0 ≡ true) ⊎ (eqb k 0 ≡ false)
-        → reportValues (cond (eqb k 0) (report.Read r) (report.Refused k)) ≡ numbered (reportValues (cond (eqb k 0) (report.Read r) (report.Refused k)) .0) (c ∷ v ∷ [])
+        → reportValues (cond (eqb k 0) (report.Read r) (report.Refused k))
+        ≡ numbered (reportValues (cond (eqb k 0) (report.Read r) (report.Refused k)) .0) (c ∷ v ∷ [])
     by-number k r p q (inl e) = rw (e, p, q)
     by-number k r p q (inr e) = simp e
 
@@ -86,12 +89,14 @@ answer-values n c v = go (partNamed n c) (wordNamed v) refl refl
 -- ---- one reading of a report, by its part or by its code
 
 -- the number of a report that a test picks
-picked-number : (k : ℕ) (r : Report) → (eqb k 0 ≡ true) ⊎ (eqb k 0 ≡ false) → reportValues (cond (eqb k 0) (report.Read r) (report.Refused k)) .0 ≡ k
+picked-number : (k : ℕ) (r : Report) → (eqb k 0 ≡ true) ⊎ (eqb k 0 ≡ false)
+    → reportValues (cond (eqb k 0) (report.Read r) (report.Refused k)) .0 ≡ k
 picked-number k r (inl e) = rw e (sym (eqb-true k 0 e))
 picked-number k r (inr e) = rw e
 
 -- a report's code and number are read as the part, if the ring has it, and the word
-read-as : (n : ℕ) (p : Part) (w : Word) → InRing 32 p → reportRefusal n (partCode p) (wordNumber w) ≡ reportValues (reportOf n (ofRing n p) (some w)) .0
+read-as : (n : ℕ) (p : Part) (w : Word) → InRing 32 p
+    → reportRefusal n (partCode p) (wordNumber w) ≡ reportValues (reportOf n (ofRing n p) (some w)) .0
 unfolding reportRefusal reportAnswer
 read-as n p w h =
     ap (λ o. reportValues (reportOf n o (wordNamed (wordNumber w))) .0) (code-reads n p h)
@@ -121,7 +126,8 @@ module _ (n : ℕ) (cs vs : List ℕ) (i : ℕ) where
       v : ℕ
       v = getD vs i 0
 
-      go : (t : Bool) → reportValues (cond t (reportAnswer n c v) report.Missing) ≡ cond t (numbered (reportRefusal n c v) (c ∷ v ∷ [])) (0, [])
+      go : (t : Bool) → reportValues (cond t (reportAnswer n c v) report.Missing)
+          ≡ cond t (numbered (reportRefusal n c v) (c ∷ v ∷ [])) (0, [])
       go true = answer-values n c v
       go false = refl
 
@@ -154,11 +160,13 @@ unfolding reportRefusal reportAnswer reportOf outcomeOf
 one-report n c v rest = go (partNamed n c) (wordNamed v)
   where
     by-number : (k : ℕ) (r : Report) → (eqb k 0 ≡ true) ⊎ (eqb k 0 ≡ false)
-        → outcomeOf (orElse (reportValues (cond (eqb k 0) (report.Read r) (report.Refused k)) .0) rest) ≡ thenRest (cond (eqb k 0) (report.Read r) (report.Refused k)) (outcomeOf rest)
+        → outcomeOf (orElse (reportValues (cond (eqb k 0) (report.Read r) (report.Refused k)) .0) rest)
+        ≡ thenRest (cond (eqb k 0) (report.Read r) (report.Refused k)) (outcomeOf rest)
     by-number k r (inl q) = rw q
     by-number k r (inr q) = simp q
 
-    go : (o : Option Part) (u : Option Word) → outcomeOf (orElse (reportValues (reportOf n o u) .0) rest) ≡ thenRest (reportOf n o u) (outcomeOf rest)
+    go : (o : Option Part) (u : Option Word)
+        → outcomeOf (orElse (reportValues (reportOf n o u) .0) rest) ≡ thenRest (reportOf n o u) (outcomeOf rest)
     go none u = refl
     go (some p) none = refl
     go (some p) (some w) = by-number (firstMet (reportConditions n (record { part = p; word = w }))) (record { part = p; word = w }) (dec _)
@@ -171,7 +179,8 @@ reports-step : (n : ℕ) (cs vs : List ℕ) (i : ℕ) → outcomeFrom n cs vs i 
 unfolding outcomeOf reportsRefusal
 reports-step n cs vs i = go (dec-lt i (length cs)) (dec-lt i (length vs))
   where
-    go : (i < length cs) ⊎ (length cs ≤ i) → (i < length vs) ⊎ (length vs ≤ i) → outcomeFrom n cs vs i ≡ thenRest (reportAt n cs vs i) (outcomeFrom n cs vs (i + 1))
+    go : (i < length cs) ⊎ (length cs ≤ i) → (i < length vs) ⊎ (length vs ≤ i)
+        → outcomeFrom n cs vs i ≡ thenRest (reportAt n cs vs i) (outcomeFrom n cs vs (i + 1))
     go (inl p) (inl q) = rw (← within-both n cs vs i p q, add-one, drop-cons cs i 0, drop-cons vs i 0) (one-report n _ _ _)
     go (inl p) (inr q) = rw (← past-words n cs vs i q, drop-of-length-le vs q, drop-cons cs i 0)
     go (inr p) q = rw (← past-codes n cs vs i p, drop-of-length-le cs p)

@@ -11,7 +11,7 @@ fn next_is(stored: i32, ours: &[u8], expected: &mut [u8]) -> bool
 {
     let size = ours.len();
     let got = io::read_full(stored, &mut expected[..size]);
-    got == size && cases::same_bytes(ours, &expected[..size])
+    got == size && check::same(ours, &expected[..size])
 }
 
 // Whether the run of a file is the stored one.

@@ -8,7 +8,8 @@ use Rattle.plant.proofs.feeds.Tie as tie
 
 -- n is below 3 or above 20
 by-size : tie.Need-returns
-by-size c = answered _ _ _ _ (c .refused .ensures ∙ size-refused _ _ _ (sym (c .before .before .size-outside .ensures) ∙ c .before .if1 .taken))
+by-size c = answered _ _ _ _ (c .refused .ensures
+    ∙ size-refused _ _ _ (sym (c .before .before .size-outside .ensures) ∙ c .before .if1 .taken))
 
 -- a health is not one of its part's kind
 by-health : tie.Need-returns-2
@@ -17,7 +18,8 @@ by-health c =
     let h = c .before .before in
     answered _ _ _ _
     (c .refused2 .ensures
-    ∙ health-refused _ _ _ (sym (s .before .size-outside .ensures) ∙ s .if1 .left) (sym (h .health-outside .ensures) ∙ c .before .if2 .taken))
+    ∙ health-refused _ _ _ (sym (s .before .size-outside .ensures) ∙ s .if1 .left)
+    (sym (h .health-outside .ensures) ∙ c .before .if2 .taken))
 
 bus-feeds-requires : tie.Need-bus-feeds-requires
 bus-feeds-requires c κs = let s = c .before .before in size-bounds _ (sym (s .before .size-outside .ensures) ∙ s .if1 .left) .1

@@ -16,7 +16,8 @@ commanded c =
 stuck-open : tie.Need-returns-3
 stuck-open c =
     let h = c .before .before .args .health in
-    or-test h 3 _ _ (λ l e. omega (arith, facts)) (λ l. unless-test h 2 _ _ (λ m e. omega (arith, facts)) (λ m. absurd (omega (arith, facts))))
+    or-test h 3 _ _ (λ l e. omega (arith, facts))
+    (λ l. unless-test h 2 _ _ (λ m e. omega (arith, facts)) (λ m. absurd (omega (arith, facts))))
 
 pub is-closed-spec : {M : Type 1} → statement M
 is-closed-spec = tie.close (tie.spec stuck-closed commanded stuck-open)

@@ -42,12 +42,14 @@ length c =
 refused : tie.Need-returns-6
 refused c =
     let d = c .before .before .before .before .before .before .before .before .before .before in
-    file-refused _ (omega arith, sym (d .before .size-outside .ensures) ∙ d .if2 .left) (omega arith) (omega arith) _ (c .before .before .before .check-reports .ensures) _ (c .before .k .given .1)
+    file-refused _ (omega arith, sym (d .before .size-outside .ensures) ∙ d .if2 .left) (omega arith) (omega arith) _
+    (c .before .before .before .check-reports .ensures) _ (c .before .k .given .1)
 
 served : tie.Need-returns-5
 served c =
     let d = c .before .before .before .before .before .before .before .before .before in
-    file-served _ (omega arith, sym (d .before .size-outside .ensures) ∙ d .if2 .left) (omega arith) (omega arith) _ (c .before .before .check-reports .ensures) (c .enum-told .given .1)
+    file-served _ (omega arith, sym (d .before .size-outside .ensures) ∙ d .if2 .left) (omega arith) (omega arith) _
+    (c .before .before .check-reports .ensures) (c .enum-told .given .1)
 
 pub check-file-spec : {M : Type 1} → statement M
 check-file-spec =

@@ -8,15 +8,18 @@ use Rattle.reports.proofs.not_of_ring.Tie as tie
 
 none : tie.Need-returns
 none c =
-    ring-test _ _ _ (λ l e. omega (arith, facts)) (λ l e. omega (arith, facts)) (λ l e. omega (arith, facts)) (λ l m k e. omega (arith, facts))
+    ring-test _ _ _ (λ l e. omega (arith, facts)) (λ l e. omega (arith, facts)) (λ l e. omega (arith, facts))
+    (λ l m k e. omega (arith, facts))
 
 above : tie.Need-returns-2
 above c =
-    ring-test _ _ _ (λ l e. omega (arith, facts)) (λ l e. omega (arith, facts)) (λ l e. omega (arith, facts)) (λ l m k e. omega (arith, facts))
+    ring-test _ _ _ (λ l e. omega (arith, facts)) (λ l e. omega (arith, facts)) (λ l e. omega (arith, facts))
+    (λ l m k e. omega (arith, facts))
 
 beyond : tie.Need-returns-3
 beyond c =
-    ring-test _ _ _ (λ l e. omega (arith, facts)) (λ l e. omega (arith, facts)) (λ l e. omega (arith, facts)) (λ l m k e. omega (arith, facts))
+    ring-test _ _ _ (λ l e. omega (arith, facts)) (λ l e. omega (arith, facts)) (λ l e. omega (arith, facts))
+    (λ l m k e. omega (arith, facts))
 
 pub not-of-ring-spec : {M : Type 1} → statement M
 not-of-ring-spec =
