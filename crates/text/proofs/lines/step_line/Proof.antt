@@ -13,7 +13,7 @@ sheet-line-requires c κs =
     let d = c .before .before .before .before .before in
     let p = c .before .before .before .before .before .before .before .before .pre in
     let size = good-size _ (p .0) in
-    let g = step-given _ (p .0) _ (p .1) _ (search needs) _ _ (d .step .ensures) in
+    let g = step-given _ (p .0) _ (p .1) _ (search needs) _ _ (d .step .ensures .0) (d .step .ensures .1 .0) in
     (p .2, omega (arith, size .0), size .1, g .named, g .sheet, p .3)
 
 returns : tie.Need-returns
@@ -22,7 +22,7 @@ returns c =
     let d = c .before .before .before .before .before .before .before .before in
     let p = c .before .before .before .before .before .before .before .before .before .before .before .pre in
     let l = c .before .before .sheet-line .ensures in
-    let g = step-given _ (p .0) _ (p .1) _ (search needs) _ _ (d .step .ensures) in
+    let g = step-given _ (p .0) _ (p .1) _ (search needs) _ _ (d .step .ensures .0) (d .step .ensures .1 .0) in
     g .shown _ _ _ _ (l .0) (l .1)
 
 pub step-line-spec : {M : Type 1} → statement M
