@@ -36,9 +36,17 @@ returns-2 c =
 pub append-bus-spec : {M : Type 1} → statement M
 append-bus-spec =
     tie.close
-    (tie.spec (λ c. search needs) (λ c. search needs) (λ c. simp length-set (omega arith)) (λ c. search needs) (λ c κs. simp length-set (omega arith))
+    (tie.spec
+    (λ c. search needs)
+    (λ c. search needs)
+    (λ c. simp length-set (omega arith))
+    (λ c. search needs)
+    (λ c κs. simp length-set (omega arith))
     append-choice-requires
     (λ c. let e = c .before .before in e .append-choice .kept .1 .0 ∙ simp length-set at (e .before .before .before .before .append-digit .kept .1 .1 .0))
-    returns (λ c. search needs) (λ c κs. simp length-set (omega arith)) append-choice-requires-2
+    returns
+    (λ c. search needs)
+    (λ c κs. simp length-set (omega arith))
+    append-choice-requires-2
     (λ c. let e = c .before .before in e .append-choice2 .kept .1 .0 ∙ simp length-set at (e .before .before .before .before .append-marked .kept .1 .1 .0))
     returns-2)

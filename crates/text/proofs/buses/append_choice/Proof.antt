@@ -29,5 +29,15 @@ returns-2 c =
 pub append-choice-spec : {M : Type 1} → statement M
 append-choice-spec =
     tie.close
-    (tie.spec (λ c κs. search needs) (λ c. search needs) (λ c. search needs) (λ c. search needs) returns (λ c. search needs) (λ c κs. search needs)
-    (λ c. search needs) append-marked-requires (λ c. simp length-set at (c .before .before .append-marked .kept .1 .1 .0)) returns-2)
+    (tie.spec
+    (λ c κs. search needs)
+    (λ c. search needs)
+    (λ c. search needs)
+    (λ c. search needs)
+    returns
+    (λ c. search needs)
+    (λ c κs. search needs)
+    (λ c. search needs)
+    append-marked-requires
+    (λ c. simp length-set at (c .before .before .append-marked .kept .1 .1 .0))
+    returns-2)

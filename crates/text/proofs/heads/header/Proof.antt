@@ -40,7 +40,12 @@ sized d = d .append-labelled2 .kept .1 .1 .0 ∙ first d .append-labelled .kept 
 pub header-spec : {M : Type 1} → statement M
 header-spec =
     tie.close
-    (tie.spec (λ c. search needs) (λ c κs. search needs) (λ c. search needs) append-labelled-requires-2
+    (tie.spec
+    (λ c. search needs)
+    (λ c κs. search needs)
+    (λ c. search needs)
+    append-labelled-requires-2
     (λ c. let d = c .before .before in omega (arith, stored d .end, fits d, sized d))
-    (λ c. let d = c .before .before in omega (arith, stored d .end, fits d, start (first d) .good)) (λ c. simp length-set (sized (c .before .before)))
+    (λ c. let d = c .before .before in omega (arith, stored d .end, fits d, start (first d) .good))
+    (λ c. simp length-set (sized (c .before .before)))
     (λ c. let d = c .before .before in appended-all (stored d) (fits d)))

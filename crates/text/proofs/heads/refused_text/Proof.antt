@@ -27,6 +27,10 @@ fits d = omega (arith, start d .pre, refused-fits (start d .args .k) (omega arit
 pub refused-text-spec : {M : Type 1} → statement M
 refused-text-spec =
     tie.close
-    (tie.spec (λ c. search needs) (λ c κs. search needs) (λ c. let d = c .before .before in omega (arith, stored d .end, fits d))
-    (λ c. let d = c .before .before in omega (arith, stored d .end, fits d)) (λ c. simp length-set (c .before .before .append-labelled .kept .1 .1 .0))
+    (tie.spec
+    (λ c. search needs)
+    (λ c κs. search needs)
+    (λ c. let d = c .before .before in omega (arith, stored d .end, fits d))
+    (λ c. let d = c .before .before in omega (arith, stored d .end, fits d))
+    (λ c. simp length-set (c .before .before .append-labelled .kept .1 .1 .0))
     (λ c. let d = c .before .before in appended-all (stored d) (fits d)))

@@ -22,4 +22,12 @@ returns c =
     g .shown 0 _ _ _ (l .0) (l .1)
 
 pub start-line-spec : {M : Type 1} → statement M
-start-line-spec = tie.close (tie.spec (λ c. search needs) (λ c κs. search needs) (λ c. search needs) sheet-line-requires (λ c. search needs) returns)
+start-line-spec =
+    tie.close
+    (tie.spec
+    (λ c. search needs)
+    (λ c κs. search needs)
+    (λ c. search needs)
+    sheet-line-requires
+    (λ c. search needs)
+    returns)

@@ -26,4 +26,12 @@ returns c =
     g .shown _ _ _ _ (l .0) (l .1)
 
 pub step-line-spec : {M : Type 1} → statement M
-step-line-spec = tie.close (tie.spec (λ c. search needs) (λ c κs. search needs) (λ c. search needs) sheet-line-requires (λ c. search needs) returns)
+step-line-spec =
+    tie.close
+    (tie.spec
+    (λ c. search needs)
+    (λ c κs. search needs)
+    (λ c. search needs)
+    sheet-line-requires
+    (λ c. search needs)
+    returns)

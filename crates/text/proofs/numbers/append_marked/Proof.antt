@@ -24,7 +24,18 @@ returns-3 c =
 pub append-marked-spec : {M : Type 1} → statement M
 append-marked-spec =
     tie.close
-    (tie.spec (λ c κs. search needs) (λ c. search needs) (λ c. search needs) (λ c. search needs) (λ c. search needs)
-    (λ c κs. simp length-set (omega arith)) (λ c. simp length-set at (c .before .before .append-digit2 .kept .1 .1 .0)) returns-2 (λ c. search needs)
-    (λ c. search needs) (λ c. search needs) (λ c κs. simp length-set (omega arith))
-    (λ c. simp length-set at (c .before .before .append-digit3 .kept .1 .1 .0)) returns-3)
+    (tie.spec
+    (λ c κs. search needs)
+    (λ c. search needs)
+    (λ c. search needs)
+    (λ c. search needs)
+    (λ c. search needs)
+    (λ c κs. simp length-set (omega arith))
+    (λ c. simp length-set at (c .before .before .append-digit2 .kept .1 .1 .0))
+    returns-2
+    (λ c. search needs)
+    (λ c. search needs)
+    (λ c. search needs)
+    (λ c κs. simp length-set (omega arith))
+    (λ c. simp length-set at (c .before .before .append-digit3 .kept .1 .1 .0))
+    returns-3)

@@ -28,6 +28,18 @@ returns-2 c =
 pub append-phase-spec : {M : Type 1} → statement M
 append-phase-spec =
     tie.close
-    (tie.spec (λ c. search needs) (λ c. search needs) (λ c. simp length-set (omega arith)) (λ c. search needs) (λ c. simp length-set (omega arith))
-    (λ c. search needs) (λ c. simp length-set (omega arith)) (λ c. search needs) (λ c. search needs) returns (λ c. search needs)
-    (λ c κs. simp length-set (omega arith)) (λ c. simp length-set at (c .before .before .append-operations .kept .1 .1 .0)) returns-2)
+    (tie.spec
+    (λ c. search needs)
+    (λ c. search needs)
+    (λ c. simp length-set (omega arith))
+    (λ c. search needs)
+    (λ c. simp length-set (omega arith))
+    (λ c. search needs)
+    (λ c. simp length-set (omega arith))
+    (λ c. search needs)
+    (λ c. search needs)
+    returns
+    (λ c. search needs)
+    (λ c κs. simp length-set (omega arith))
+    (λ c. simp length-set at (c .before .before .append-operations .kept .1 .1 .0))
+    returns-2)

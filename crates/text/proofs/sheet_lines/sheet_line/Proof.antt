@@ -64,7 +64,11 @@ sized f = f .append-phases .kept .1 .0 ∙ second f .append-buses .kept .1 .1 .0
 pub sheet-line-spec : {M : Type 1} → statement M
 sheet-line-spec =
     tie.close
-    (tie.spec (λ c κs. search needs) append-buses-requires append-phases-requires
+    (tie.spec
+    (λ c κs. search needs)
+    append-buses-requires
+    append-phases-requires
     (λ c. let f = c .before .before in omega (arith, stored f .end, fits f, sized f))
     (λ c. let f = c .before .before in omega (arith, stored f .end, fits f, start (first (second f)) .good))
-    (λ c. simp length-set (sized (c .before .before))) (λ c. let f = c .before .before in appended-all (stored f) (fits f)))
+    (λ c. simp length-set (sized (c .before .before)))
+    (λ c. let f = c .before .before in appended-all (stored f) (fits f)))
