@@ -99,7 +99,8 @@ module _ (ring : Ring) (small : ring .n ≤ largest) (buffer : List ℕ) where
 
 -- ---- with a buffer of 122 bytes every start of a ring's size is served, and every step whose report is not refused
 
-room-enough : (ring : Ring) → ring .n ≤ largest → (buffer : List ℕ) → 122 ≤ length buffer → tooShort (length buffer) (nextSheet ring) ≡ false
+room-enough : (ring : Ring) → ring .n ≤ largest → (buffer : List ℕ) → 122 ≤ length buffer
+    → tooShort (length buffer) (nextSheet ring) ≡ false
 unfolding tooShort nextSheet
 room-enough ring small buffer enough =
     le-ltb (length buffer) _ (omega (arith, sheet-fits (ring .n) (commandsOf (ring .commands)) (planned ring) small))

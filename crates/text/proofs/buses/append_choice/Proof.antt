@@ -9,7 +9,9 @@ use Rattle.text.proofs.buses.append_choice.Statement.{statement}
 use Rattle.text.proofs.buses.append_choice.Tie as tie
 
 returns : tie.Need-returns
-returns c = let d = c .before in rw (choice-dark (d .before .before .args .choice) (d .letter .ensures) (c .if1 .taken)) (appended-byte _ _ _)
+returns c =
+    let d = c .before in
+    rw (choice-dark (d .before .before .args .choice) (d .letter .ensures) (c .if1 .taken)) (appended-byte _ _ _)
 
 append-marked-requires : tie.Need-append-marked-requires
 append-marked-requires c κs =

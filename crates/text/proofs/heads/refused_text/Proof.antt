@@ -17,7 +17,8 @@ start d = d .before .before .before .before
 
 -- the whole text, which fits
 stored : (d : tie.After-append-labelled)
-    → Appended (refusedText (start d .args .k)) (now (start d .args .out)) 0 (set (d .append-labelled .last .1 .1 .0) (d .append-labelled .result) 10) (d .append-labelled .result + 1)
+    → Appended (refusedText (start d .args .k)) (now (start d .args .out)) 0
+    (set (d .append-labelled .last .1 .1 .0) (d .append-labelled .result) 10) (d .append-labelled .result + 1)
 unfolding refusedText ascii
 stored d = appended-one 10 refl refl (d .append-labelled .ensures)
 

@@ -12,7 +12,8 @@ returns-2 : tie.Need-returns-2
 returns-2 c =
     let d = c .before .before in
     let a = d .before .before .before .before .before .args in
-    rw (marked-more (a .k) 1 (a .k - 10) (a .mark) (omega arith) (omega arith) (omega arith) (omega arith)) (appended-more (appended-byte _ _ _) (d .append-digit2 .ensures))
+    rw (marked-more (a .k) 1 (a .k - 10) (a .mark) (omega arith) (omega arith) (omega arith) (omega arith))
+    (appended-more (appended-byte _ _ _) (d .append-digit2 .ensures))
 
 returns-3 : tie.Need-returns-3
 returns-3 c =

@@ -8,7 +8,9 @@ use Rattle.text.proofs.sheet_lines.append_phases.Statement.{statement}
 use Rattle.text.proofs.sheet_lines.append_phases.Tie as tie
 
 returns : tie.Need-returns
-returns c = appended-more (c .before .before .before .before .before .before .before .before .append-phase .ensures) (c .before .before .append-phase2 .ensures)
+returns c =
+    appended-more (c .before .before .before .before .before .before .before .before .append-phase .ensures)
+    (c .before .before .append-phase2 .ensures)
 
 append-phase-requires-2 : tie.Need-append-phase-requires-2
 append-phase-requires-2 c κs =
