@@ -37,19 +37,22 @@ count c =
 length : tie.Need-returns-4
 length c =
     let d = c .before .before .before .before in
-    file-length _ (omega (arith, facts), sym (d .before .size-outside .ensures) ∙ d .if2 .left) (omega (arith, facts)) (omega (arith, facts))
+    file-length _ (omega (arith, facts), sym (d .before .size-outside .ensures) ∙ d .if2 .left)
+    (omega (arith, facts)) (omega (arith, facts))
 
 -- 5, 6, 7
 refused : tie.Need-returns-6
 refused c =
     let d = c .before .before .before .before .before .before .before .before .before .before in
-    file-refused _ (omega (arith, facts), sym (d .before .size-outside .ensures) ∙ d .if2 .left) (omega (arith, facts)) (omega (arith, facts)) _
+    file-refused _ (omega (arith, facts), sym (d .before .size-outside .ensures) ∙ d .if2 .left)
+    (omega (arith, facts)) (omega (arith, facts)) _
     (c .before .before .before .check-reports .ensures) _ (c .before .k .given .1)
 
 served : tie.Need-returns-5
 served c =
     let d = c .before .before .before .before .before .before .before .before .before in
-    file-served _ (omega (arith, facts), sym (d .before .size-outside .ensures) ∙ d .if2 .left) (omega (arith, facts)) (omega (arith, facts)) _
+    file-served _ (omega (arith, facts), sym (d .before .size-outside .ensures) ∙ d .if2 .left)
+    (omega (arith, facts)) (omega (arith, facts)) _
     (c .before .before .check-reports .ensures) (c .enum-told .given .1)
 
 pub check-file-spec : {M : Type 1} → statement M
