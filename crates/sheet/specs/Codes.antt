@@ -14,8 +14,7 @@ use Rattle.model.specs.Plant.{largest, generator, generatorBreaker, busBreaker,
 use Rattle.model.specs.Sheet.{opening, closing}
 use Rattle.model.specs.Reports.{commandsOf}
 use Rattle.model.specs.Laws.Tests.{contra, by-cond}
-use Rattle.model.specs.Laws.Lists.{below-in, below-lt, any-none, keep-append}
-use Rattle.model.specs.Laws.Lists.{keep-map, keep-none}
+use Rattle.model.specs.Laws.Lists.{below-in, below-lt, any-none, keep-append, keep-map, keep-none}
 use Rattle.model.specs.Laws.Appended.{Appended, appended-none, appended-one}
 
 -- the codes of the opening phase
@@ -63,11 +62,13 @@ kept false true e = contra refl e
 -- where no command of a kind changes, none opens or closes
 pub unchanged : (old new : List Bool) (n : ℕ) → n ≤ largest → anyOf (changes old new) (below largest) ≡ false
     → (i : ℕ) → i ∈ below n → (opens old new i ≡ false) × (closes old new i ≡ false)
-unchanged old new n h e i m = kept (getD old i false) (getD new i false) (any-none (changes old new) e (below-in largest i (omega (arith, below-lt n i m))))
+unchanged old new n h e i m =
+    kept (getD old i false) (getD new i false) (any-none (changes old new) e (below-in largest i (omega (arith, below-lt n i m))))
 
 -- ---- one kind
 
-pub codes-none : (test : ℕ → Bool) (base n : ℕ) {l : List ℕ} {c : ℕ} → ((i : ℕ) → i ∈ below n → test i ≡ false) → Appended (codes test base n) l c l c
+pub codes-none : (test : ℕ → Bool) (base n : ℕ) {l : List ℕ} {c : ℕ} → ((i : ℕ) → i ∈ below n → test i ≡ false)
+    → Appended (codes test base n) l c l c
 unfolding codes
 codes-none test base n h = rw (keep-none test (below n) h) (appended-none _ _)
 
@@ -77,7 +78,8 @@ module _ (test : ℕ → Bool) (base i : ℕ) where
   unfolding codes below keep
   more =
       rw (add-one, keep-append, map-append)
-      (ap (λ l. codes test base i ++ l) (by-cond (λ l. map (λ j. base + j) l ≡ cond (test i) ((base + i) ∷ []) []) (test i) (λ e. rw e) (λ e. rw e)))
+      (ap (λ l. codes test base i ++ l)
+      (by-cond (λ l. map (λ j. base + j) l ≡ cond (test i) ((base + i) ∷ []) []) (test i) (λ e. rw e) (λ e. rw e)))
 
   module _ {l l′ : List ℕ} {c j : ℕ} (a : Appended (codes test base i) l c l′ j) where
     pub codes-miss : test i ≡ false → Appended (codes test base (i + 1)) l c l′ j
@@ -89,6 +91,7 @@ module _ (test : ℕ → Bool) (base i : ℕ) where
 -- ---- all kinds
 
 pub codes-parts : (f : Part → Bool) (n : ℕ)
-    → map partCode (keep f (parts n)) ≡ codes (λ i. f (generator i)) 0 n ++ codes (λ i. f (generatorBreaker i)) 32 n ++ codes (λ i. f (busBreaker i)) 64 n
+    → map partCode (keep f (parts n))
+    ≡ codes (λ i. f (generator i)) 0 n ++ codes (λ i. f (generatorBreaker i)) 32 n ++ codes (λ i. f (busBreaker i)) 64 n
 unfolding codes parts partCode
 codes-parts f n = simp (keep-append, keep-map, map-append, map-map, append-assoc)

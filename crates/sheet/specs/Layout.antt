@@ -20,7 +20,8 @@ map-const : (n : ℕ) (xs : List Part) → map (λ p. n) xs ≡ replicate (lengt
 map-const n [] = refl
 map-const n (x ∷ xs) = ap (λ l. n ∷ l) (map-const n xs)
 
-pub sheet-layout : (n : ℕ) (old new : Commands) → sheet n (commandsOf old) (commandsOf new) ≡ layout (openingCodes n old new) (closingCodes n old new)
+pub sheet-layout : (n : ℕ) (old new : Commands)
+    → sheet n (commandsOf old) (commandsOf new) ≡ layout (openingCodes n old new) (closingCodes n old new)
 unfolding sheet sheetOf layout
 sheet-layout n old new = simp (map-append, map-const, length-map, append-assoc)
 

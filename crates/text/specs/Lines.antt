@@ -113,7 +113,8 @@ filling-none {f} {c} w buffer =
     }
 
 -- where more is left, the next line can be put
-pub filling-within : {f before after : List ℕ} {k size : ℕ} {c : RunCursor} {goes : Bool} → Filling f k before after c size goes → goes ≡ true
+pub filling-within : {f before after : List ℕ} {k size : ℕ} {c : RunCursor} {goes : Bool} → Filling f k before after c size goes
+    → goes ≡ true
     → Within f c
 filling-within {f} {c = c} s e =
     record { cursor = s .cursor; more = ltb-true (c .place) (length (runLines f)) (sym (s .more) ∙ e) }

@@ -20,7 +20,8 @@ use Rattle.model.specs.declared.RunPiece.{RunPiece}
 use Rattle.model.specs.Lists.{below}
 use Rattle.model.specs.Plant.{smallest, largest}
 use Rattle.model.specs.Reports.{fileSize, fileCount, fileCodes, fileWords, blankRing, told, withPlan}
-use Rattle.model.specs.Refusals.{firstMet, orElse, sizeOutside, reportConditions, reportAnswer, reportRefusal, reportsRefusal, fileRefusal, badRecord}
+use Rattle.model.specs.Refusals.{firstMet, orElse, sizeOutside, reportConditions}
+use Rattle.model.specs.Refusals.{reportAnswer, reportRefusal, reportsRefusal, fileRefusal, badRecord}
 use Rattle.model.specs.Answers.{reportAt, fileAnswer}
 use Rattle.model.specs.Text.{ascii, header, refusedText, line, transitionLine, toldAnswer, runRing, servedLines, refusedLines, runLines}
 use Rattle.model.specs.Text.{printedRun, runLeft, stateAt, cursorAt, Within}

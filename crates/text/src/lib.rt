@@ -33,7 +33,9 @@ pub fn begin() -> RunCursor
 pub fn fill(first: RunCursor, file: &[u8], out: &mut [u8]) -> RunPiece
     requires cursor { ⌜ Within (now file) first ⌝ }
     requires room { ⌜ lineRoom ≤ length (now out) ⌝ }
-    ensures run { λ r. ⌜ runLeft (now (file .entry)) (first .place) ≡ take (r .length) (now (out .exit)) ++ runLeft (now (file .entry)) (r .cursor .place) ⌝ }
+    ensures run { λ r. ⌜
+        runLeft (now (file .entry)) (first .place) ≡ take (r .length) (now (out .exit)) ++ runLeft (now (file .entry)) (r .cursor .place)
+        ⌝ }
     ensures kept { λ r. ⌜ drop (r .length) (now (out .exit)) ≡ drop (r .length) (now (out .entry)) ⌝ }
     ensures length { λ r. ⌜ (0 < r .length) × (r .length ≤ length (now (out .exit))) ⌝ }
     ensures cursor { λ r. ⌜ r .cursor ≡ cursorAt (now (file .entry)) (r .cursor .place) ⌝ }

@@ -38,7 +38,10 @@ fn start_line(n: u8, out: &mut [u8]) -> Line
 
 // Line i, of a report that is not refused.
 fn step_line(ring: Ring, report: Report, i: usize, out: &mut [u8]) -> Line
-    requires { ⌜ (badRecord ring ≡ false) × (firstMet (reportConditions (ring .n) report) ≡ 0) × (i < 10000) × (lineRoom ≤ length (now out)) ⌝ }
+    requires { ⌜
+        (badRecord ring ≡ false) × (firstMet (reportConditions (ring .n) report) ≡ 0)
+        × (i < 10000) × (lineRoom ≤ length (now out))
+        ⌝ }
     ensures { λ r. ⌜ Shown i (told ring report) (now (out .entry)) (now (out .exit)) (r .ring) (r .length) ⌝ }
 {
     let mut sheet = [0u8; 122];
@@ -52,7 +55,10 @@ fn step_line(ring: Ring, report: Report, i: usize, out: &mut [u8]) -> Line
 
 // The line of report i, counted from 0, of a file that is served: none of its reports is refused or missing.
 fn report_line(ring: Ring, file: &[u8], i: usize, out: &mut [u8]) -> Line
-    requires { ⌜ (fileRefusal (now file) ≡ 0) × (i < fileCount (now file)) × (ring ≡ withPlan (runRing (now file) i)) × (lineRoom ≤ length (now out)) ⌝ }
+    requires { ⌜
+        (fileRefusal (now file) ≡ 0) × (i < fileCount (now file))
+        × (ring ≡ withPlan (runRing (now file) i)) × (lineRoom ≤ length (now out))
+        ⌝ }
     ensures { λ r. ⌜ Shown (i + 1) (runRing (now (file .entry)) (i + 1)) (now (out .entry)) (now (out .exit)) (r .ring) (r .length) ⌝ }
 {
     let m = (file.len() - 3) / 2;

@@ -49,7 +49,10 @@ fn append_operation(code: u8, command: u8, out: &mut [u8], at: usize) -> usize
 // The operations of a phase, each behind a space.
 fn append_operations(codes: &[u8], commands: &[u8], out: &mut [u8], at: usize) -> usize
     requires { ⌜ (length (now commands) ≡ length (now codes)) × (at + 6 * length (now codes) ≤ length (now out)) ⌝ }
-    ensures { λ r. ⌜ Appended (behindSpaces (zipWith operationText (now (codes .entry)) (now (commands .entry)))) (now (out .entry)) at (now (out .exit)) r ⌝ }
+    ensures { λ r. ⌜
+        Appended (behindSpaces (zipWith operationText (now (codes .entry)) (now (commands .entry))))
+        (now (out .entry)) at (now (out .exit)) r
+        ⌝ }
 {
     let mut end = at;
     for i in 0..codes.len() {
@@ -61,7 +64,10 @@ fn append_operations(codes: &[u8], commands: &[u8], out: &mut [u8], at: usize) -
 // A phase, "a lone `-` an empty wave".
 pub fn append_phase(codes: &[u8], commands: &[u8], out: &mut [u8], at: usize) -> usize
     requires { ⌜ (length (now commands) ≡ length (now codes)) × (at + 4 + 6 * length (now codes) ≤ length (now out)) ⌝ }
-    ensures { λ r. ⌜ Appended (ascii " / " ++ phaseOf (now (codes .entry)) (now (commands .entry))) (now (out .entry)) at (now (out .exit)) r ⌝ }
+    ensures { λ r. ⌜
+        Appended (ascii " / " ++ phaseOf (now (codes .entry)) (now (commands .entry)))
+        (now (out .entry)) at (now (out .exit)) r
+        ⌝ }
 {
     out[at] = b' ';
     out[at + 1] = b'/';

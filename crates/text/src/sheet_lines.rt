@@ -16,7 +16,10 @@ use model::BusChoice;
 // "the first wave; the second.": a sheet has its sizes, then the codes of both phases, then their commands.
 fn append_phases(sheet: &[u8], out: &mut [u8], at: usize) -> usize
     requires { ⌜ SheetBytes (now sheet) × (at + 8 + 6 * (openingSize (now sheet) + closingSize (now sheet)) ≤ length (now out)) ⌝ }
-    ensures { λ r. ⌜ Appended (openingText (now (sheet .entry)) ++ closingText (now (sheet .entry))) (now (out .entry)) at (now (out .exit)) r ⌝ }
+    ensures { λ r. ⌜
+        Appended (openingText (now (sheet .entry)) ++ closingText (now (sheet .entry)))
+        (now (out .entry)) at (now (out .exit)) r
+        ⌝ }
 {
     let opened = sheet[0] as usize;
     let closed = sheet[1] as usize;

@@ -25,7 +25,28 @@ loop-again c = let l = c .before .before .before .loop in (any-below _ (l .i) (l
 returns : tie.Need-returns Inv-loop μ-loop
 returns c = let e : c .before .loop .i ≡ 20 = omega arith in rw (← e) (c .before .loop .inv .0)
 
+element-copy-out-any : tie.Need-element-copy-out-any Inv-loop μ-loop
+element-copy-out-any c = search needs
+
+element-copy-out-any-2 : tie.Need-element-copy-out-any-2 Inv-loop μ-loop
+element-copy-out-any-2 c = search needs
+
+add-i : tie.Need-add-i Inv-loop μ-loop
+add-i c = search needs
+
+loop-less : tie.Need-loop-less Inv-loop μ-loop
+loop-less c = search needs
+
 pub differ-spec : {M : Type 1} → statement M
 differ-spec =
     tie.close
-    (tie.spec Inv-loop μ-loop loop-holds (λ c. search needs) (λ c. search needs) (λ c. search needs) (λ c. search needs) loop-again returns)
+    (tie.spec
+    Inv-loop
+    μ-loop
+    loop-holds
+    element-copy-out-any
+    element-copy-out-any-2
+    add-i
+    loop-less
+    loop-again
+    returns)

@@ -35,6 +35,18 @@ loop-again c =
 returns : tie.Need-returns Inv-loop μ-loop
 returns c = let e : c .before .loop .i ≡ c .before .before .args .to = omega arith in rw (← e) (c .before .loop .inv .0)
 
+slice-write-bytes : tie.Need-slice-write-bytes Inv-loop μ-loop
+slice-write-bytes c = search needs
+
+add-i : tie.Need-add-i Inv-loop μ-loop
+add-i c = search needs
+
+loop-less : tie.Need-loop-less Inv-loop μ-loop
+loop-less c = search needs
+
+same-length : tie.Need-same-length Inv-loop μ-loop
+same-length c = c .before .loop .inv .1
+
 pub fill-spec : {M : Type 1} → statement M
 fill-spec =
     tie.close
@@ -42,9 +54,9 @@ fill-spec =
     Inv-loop
     μ-loop
     loop-holds
-    (λ c. search needs)
-    (λ c. search needs)
-    (λ c. search needs)
+    slice-write-bytes
+    add-i
+    loop-less
     loop-again
-    (λ c. c .before .loop .inv .1)
+    same-length
     returns)

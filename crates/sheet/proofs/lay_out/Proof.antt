@@ -70,17 +70,29 @@ returns c =
     (omega (arith, sized d, d, e))
     (omega (arith, sized d, d, e))
 
+cast-bytes : tie.Need-cast-bytes
+cast-bytes c = search needs
+
+slice-write-bytes : tie.Need-slice-write-bytes
+slice-write-bytes c = search needs
+
+cast-bytes-2 : tie.Need-cast-bytes-2
+cast-bytes-2 c = search needs
+
+add-closing-commands : tie.Need-add-closing-commands
+add-closing-commands c = search needs
+
 pub lay-out-spec : {M : Type 1} → statement M
 lay-out-spec =
     tie.close
     (tie.spec
-    (λ c. search needs)
-    (λ c. search needs)
-    (λ c. search needs)
+    cast-bytes
+    slice-write-bytes
+    cast-bytes-2
     slice-write-bytes-2
     copy-requires
     copy-requires-2
-    (λ c. search needs)
+    add-closing-commands
     fill-requires
     fill-requires-2
     same-length

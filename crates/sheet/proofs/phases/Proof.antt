@@ -16,7 +16,9 @@ abbrev second : tie.After-collect2 → tie.After-collect
 second d = d .before .before .before .before .before .before .before
 
 collect-requires-2 : tie.Need-collect-requires-2
-collect-requires-2 c κs = let d = c .before .before .before .before .before .before in omega (arith, first d .pre, d .collect .ensures .1 .1)
+collect-requires-2 c κs =
+    let d = c .before .before .before .before .before .before in
+    omega (arith, first d .pre, d .collect .ensures .1 .1)
 
 collect-requires-3 : tie.Need-collect-requires-3
 collect-requires-3 c κs =
@@ -28,8 +30,19 @@ returns : tie.Need-returns
 unfolding opening closing commandsOf
 returns c =
     let e = c .before .before .before .before .before .before .before in
-    let d = second e in
-    (rw codes-parts (appended-more (appended-more (d .collect .ensures .0) (e .collect2 .ensures .0)) (c .collect3 .ensures .0)), rw codes-parts (appended-more (appended-more (d .collect .ensures .1 .0) (e .collect2 .ensures .1 .0)) (c .collect3 .ensures .1 .0)))
+    let d = second e in (
+      rw codes-parts (appended-more (appended-more (d .collect .ensures .0) (e .collect2 .ensures .0)) (c .collect3 .ensures .0)),
+      rw codes-parts (appended-more (appended-more (d .collect .ensures .1 .0) (e .collect2 .ensures .1 .0)) (c .collect3 .ensures .1 .0)),
+    )
+
+collect-requires : tie.Need-collect-requires
+collect-requires c κs = search needs
 
 pub phases-spec : {M : Type 1} → statement M
-phases-spec = tie.close (tie.spec (λ c κs. search needs) collect-requires-2 collect-requires-3 returns)
+phases-spec =
+    tie.close
+    (tie.spec
+    collect-requires
+    collect-requires-2
+    collect-requires-3
+    returns)

@@ -37,7 +37,9 @@ counted d =
 
 -- the codes that the arrays hold are the phases'
 made : (d : tie.After-phases)
-    → layout (take (d .phases .result .opening) (d .phases .last .1 .1 .1 .0)) (take (d .phases .result .closing) (d .phases .last .1 .1 .1 .1 .0))
+    → layout
+    (take (d .phases .result .opening) (d .phases .last .1 .1 .1 .0))
+    (take (d .phases .result .closing) (d .phases .last .1 .1 .1 .1 .0))
     ≡ bytes d
 made d =
     let a = start d .args in
@@ -64,7 +66,9 @@ lent : (d : tie.After-phases) → length (bytes d) ≤ length (now (start d .arg
 lent d h = length-take-le _ (now (start d .args .buffer)) (omega (arith, counted d))
 
 slice-aggregate-lay-out : tie.Need-slice-aggregate-lay-out
-slice-aggregate-lay-out c = let d = c .before .before .before .before .before in sym (lent d (omega (arith, facts, counted d)))
+slice-aggregate-lay-out c =
+    let d = c .before .before .before .before .before in
+    sym (length-take-le _ _ (omega (arith, facts, counted d)))
 
 lay-out-requires : tie.Need-lay-out-requires
 lay-out-requires c κs =
@@ -72,7 +76,13 @@ lay-out-requires c κs =
       appended-length (d .phases .ensures .0),
       (
         appended-length (d .phases .ensures .1),
-        (omega (arith, counted d), (omega (arith, counted d), lent d (omega (arith, facts, counted d)))),
+        (
+          omega (arith, counted d),
+          (
+            omega (arith, counted d),
+            lent d (omega (arith, facts, counted d)),
+          ),
+        ),
       ),
     )
 
@@ -82,17 +92,26 @@ returns-2 c =
     write-served (bytes d) (now (start d .args .buffer)) (omega (arith, facts, counted d)) _ _
     (c .before .before .lay-out .ensures ∙ made d) (sym (counted d .0))
 
+phases-requires : tie.Need-phases-requires
+phases-requires c κs = search needs
+
+slice-relend-prefix-lay-out : tie.Need-slice-relend-prefix-lay-out
+slice-relend-prefix-lay-out c = search needs
+
+same-length : tie.Need-same-length
+same-length c = search needs
+
 pub write-spec : {M : Type 1} → statement M
 write-spec =
     tie.close
     (tie.spec
-    (λ c κs. search needs)
+    phases-requires
     add-size
     mul-size
     add-size-2
     returns
-    (λ c. search needs)
+    slice-relend-prefix-lay-out
     slice-aggregate-lay-out
     lay-out-requires
-    (λ c. search needs)
+    same-length
     returns-2)

@@ -26,8 +26,11 @@ fits d = stored-fits (d .loop .inv .0 .stored)
 
 next-line-requires : tie.Need-next-line-requires Inv-loop μ-loop
 next-line-requires c κs =
-    let d = c .before .before .before in
-    (filling-within (d .loop .inv .0) (c .before .before .loop-test .taken), simp (length-take, length-drop) (omega (arith, leb-true, fits d)))
+    let d = c .before .before .before in (
+      filling-within (d .loop .inv .0) (c .before .before .loop-test .taken),
+      simp (length-take, length-drop)
+          (omega (arith, leb-true, fits d)),
+    )
 
 add-length : tie.Need-add-length Inv-loop μ-loop
 add-length c =

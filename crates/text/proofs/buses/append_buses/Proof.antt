@@ -14,7 +14,8 @@ use Rattle.text.proofs.buses.append_buses.Statement.{statement}
 use Rattle.text.proofs.buses.append_buses.Tie as tie
 
 abbrev Inv-loop : tie.InvT-loop
-Inv-loop n out₀ at choices end₀ b₀ out end b = Appended (behindSpaces (map (busText choices) (below b))) out₀ at out end × (length out ≡ length out₀) × (b ≤ n)
+Inv-loop n out₀ at choices end₀ b₀ out end b =
+    Appended (behindSpaces (map (busText choices) (below b))) out₀ at out end × (length out ≡ length out₀) × (b ≤ n)
 
 abbrev μ-loop : tie.MeasureT-loop
 μ-loop n out₀ at choices end₀ b₀ out end b = n - b
@@ -43,5 +44,17 @@ returns c = let l = c .before .loop in let e : l .b ≡ c .before .before .befor
 pub append-buses-spec : {M : Type 1} → statement M
 append-buses-spec =
     tie.close
-    (tie.spec Inv-loop μ-loop loop-holds (λ c. search needs) (λ c. search needs) (λ c. search needs) (λ c. search needs) append-bus-requires
-    (λ c. search needs) (λ c. search needs) loop-again (λ c. search needs) returns)
+    (tie.spec
+    Inv-loop
+    μ-loop
+    loop-holds
+    (λ c. search needs)
+    (λ c. search needs)
+    (λ c. search needs)
+    (λ c. search needs)
+    append-bus-requires
+    (λ c. search needs)
+    (λ c. search needs)
+    loop-again
+    (λ c. search needs)
+    returns)

@@ -9,7 +9,9 @@ use Rattle.text.proofs.buses.append_choice.Statement.{statement}
 use Rattle.text.proofs.buses.append_choice.Tie as tie
 
 returns : tie.Need-returns
-returns c = let d = c .before in rw (choice-dark (d .before .before .args .choice) (d .letter .ensures) (c .if1 .taken)) (appended-byte _ _ _)
+returns c =
+    let d = c .before in
+    rw (choice-dark (d .before .before .args .choice) (d .letter .ensures) (c .if1 .taken)) (appended-byte _ _ _)
 
 append-marked-requires : tie.Need-append-marked-requires
 append-marked-requires c κs =
@@ -29,5 +31,15 @@ returns-2 c =
 pub append-choice-spec : {M : Type 1} → statement M
 append-choice-spec =
     tie.close
-    (tie.spec (λ c κs. search needs) (λ c. search needs) (λ c. search needs) (λ c. search needs) returns (λ c. search needs) (λ c κs. search needs)
-    (λ c. search needs) append-marked-requires (λ c. simp length-set at (c .before .before .append-marked .kept .1 .1 .0)) returns-2)
+    (tie.spec
+    (λ c κs. search needs)
+    (λ c. search needs)
+    (λ c. search needs)
+    (λ c. search needs)
+    returns
+    (λ c. search needs)
+    (λ c κs. search needs)
+    (λ c. search needs)
+    append-marked-requires
+    (λ c. simp length-set at (c .before .before .append-marked .kept .1 .1 .0))
+    returns-2)

@@ -7,5 +7,9 @@ use Rattle.text.proofs.heads.append_labelled.Tie as tie
 pub append-labelled-spec : {M : Type 1} → statement M
 append-labelled-spec =
     tie.close
-    (tie.spec (λ c κs. search needs) (λ c κs. search needs) (λ c. search needs)
-    (λ c. appended-more (c .before .before .before .before .before .before .append-text .ensures) (c .before .before .append-number .ensures)))
+    (tie.spec
+    (λ c κs. search needs)
+    (λ c κs. search needs)
+    (λ c. search needs)
+    (λ c. appended-more (c .before .before .before .before .before .before .append-text .ensures)
+    (c .before .before .append-number .ensures)))

@@ -12,7 +12,8 @@ use Rattle.text.proofs.heads.append_text.Statement.{statement}
 use Rattle.text.proofs.heads.append_text.Tie as tie
 
 abbrev Inv-loop : tie.InvT-loop
-Inv-loop text out₀ at i₀ i-end out i = Appended (take i text) out₀ at out (at + i) × (length out ≡ length out₀) × (i ≤ length text) × (i-end ≡ length text)
+Inv-loop text out₀ at i₀ i-end out i =
+    Appended (take i text) out₀ at out (at + i) × (length out ≡ length out₀) × (i ≤ length text) × (i-end ≡ length text)
 
 abbrev μ-loop : tie.MeasureT-loop
 μ-loop text out₀ at i₀ i-end out i = length text - i
@@ -21,8 +22,12 @@ loop-again : tie.Need-loop-again Inv-loop μ-loop
 loop-again c =
     let l = c .before .before .loop in
     let a = c .before .before .before .args in
-    let h : l .i < length (now (a .text)) = search needs in
-    (appended-one _ (rw add-one (take-suc (now (a .text)) (l .i) 0 h)) (omega arith) (l .inv .0), simp length-set (l .inv .1), search needs, search needs)
+    let h : l .i < length (now (a .text)) = search needs in (
+      appended-one _ (rw add-one (take-suc (now (a .text)) (l .i) 0 h)) (omega arith) (l .inv .0),
+      simp length-set (l .inv .1),
+      search needs,
+      search needs,
+    )
 
 returns : tie.Need-returns Inv-loop μ-loop
 returns c =
@@ -35,5 +40,16 @@ returns c =
 pub append-text-spec : {M : Type 1} → statement M
 append-text-spec =
     tie.close
-    (tie.spec Inv-loop μ-loop (λ c. search needs) (λ c. search needs) (λ c. search needs) (λ c. search needs) (λ c. search needs) (λ c. search needs)
-    loop-again (λ c. search needs) (λ c. c .before .loop .inv .1) returns)
+    (tie.spec
+    Inv-loop
+    μ-loop
+    (λ c. search needs)
+    (λ c. search needs)
+    (λ c. search needs)
+    (λ c. search needs)
+    (λ c. search needs)
+    (λ c. search needs)
+    loop-again
+    (λ c. search needs)
+    (λ c. c .before .loop .inv .1)
+    returns)

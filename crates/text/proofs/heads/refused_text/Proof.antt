@@ -17,7 +17,8 @@ start d = d .before .before .before .before
 
 -- the whole text, which fits
 stored : (d : tie.After-append-labelled)
-    → Appended (refusedText (start d .args .k)) (now (start d .args .out)) 0 (set (d .append-labelled .last .1 .1 .0) (d .append-labelled .result) 10) (d .append-labelled .result + 1)
+    → Appended (refusedText (start d .args .k)) (now (start d .args .out)) 0
+    (set (d .append-labelled .last .1 .1 .0) (d .append-labelled .result) 10) (d .append-labelled .result + 1)
 unfolding refusedText ascii
 stored d = appended-one 10 refl refl (d .append-labelled .ensures)
 
@@ -27,6 +28,10 @@ fits d = omega (arith, start d .pre, refused-fits (start d .args .k) (omega arit
 pub refused-text-spec : {M : Type 1} → statement M
 refused-text-spec =
     tie.close
-    (tie.spec (λ c. search needs) (λ c κs. search needs) (λ c. let d = c .before .before in omega (arith, stored d .end, fits d))
-    (λ c. let d = c .before .before in omega (arith, stored d .end, fits d)) (λ c. simp length-set (c .before .before .append-labelled .kept .1 .1 .0))
+    (tie.spec
+    (λ c. search needs)
+    (λ c κs. search needs)
+    (λ c. let d = c .before .before in omega (arith, stored d .end, fits d))
+    (λ c. let d = c .before .before in omega (arith, stored d .end, fits d))
+    (λ c. simp length-set (c .before .before .append-labelled .kept .1 .1 .0))
     (λ c. let d = c .before .before in appended-all (stored d) (fits d)))

@@ -61,7 +61,8 @@ returns-3 : tie.Need-returns-3
 returns-3 c =
     let d = c .before .before .before .before .before .before in
     let s = d .before .before .before .before in
-    passed-line (s .args .cursor .place - 2 + 1) _ _ (behind d .0) (omega (arith, behind d .2)) (omega arith) (omega (arith, behind d .1 .whole))
+    passed-line (s .args .cursor .place - 2 + 1) _ _ (behind d .0) (omega (arith, behind d .2)) (omega arith)
+    (omega (arith, behind d .1 .whole))
     (c .before .before .before .report-line .ensures) (c .piece-of2 .ensures)
 
 pub next-line-spec : {M : Type 1} → statement M

@@ -10,7 +10,7 @@ sheet-line-requires : tie.Need-sheet-line-requires
 unfolding blankRing
 sheet-line-requires c κs =
     let d = c .before .before .before .before .before in
-    let g = start-given _ (search needs) (search needs) _ (search needs) _ _ (d .start .ensures) in
+    let g = start-given _ (search needs) (search needs) _ (search needs) _ _ (d .start .ensures .0) (d .start .ensures .1 .0) in
     (omega arith, search needs, search needs, g .named, g .sheet, search needs)
 
 returns : tie.Need-returns
@@ -18,8 +18,16 @@ unfolding blankRing
 returns c =
     let d = c .before .before .before .before .before .before .before .before in
     let l = c .before .before .sheet-line .ensures in
-    let g = start-given _ (search needs) (search needs) _ (search needs) _ _ (d .start .ensures) in
+    let g = start-given _ (search needs) (search needs) _ (search needs) _ _ (d .start .ensures .0) (d .start .ensures .1 .0) in
     g .shown 0 _ _ _ (l .0) (l .1)
 
 pub start-line-spec : {M : Type 1} → statement M
-start-line-spec = tie.close (tie.spec (λ c. search needs) (λ c κs. search needs) (λ c. search needs) sheet-line-requires (λ c. search needs) returns)
+start-line-spec =
+    tie.close
+    (tie.spec
+    (λ c. search needs)
+    (λ c κs. search needs)
+    (λ c. search needs)
+    sheet-line-requires
+    (λ c. search needs)
+    returns)

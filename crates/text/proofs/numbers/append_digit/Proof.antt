@@ -13,5 +13,11 @@ returns c = rw (decimal-digit (c .args .digit) (search needs)) (appended-two _ _
 pub append-digit-spec : {M : Type 1} → statement M
 append-digit-spec =
     tie.close
-    (tie.spec (λ c. search needs) (λ c. search needs) (λ c. search needs) (λ c. simp length-set (omega arith)) (λ c. search needs) (λ c. search needs)
+    (tie.spec
+    (λ c. search needs)
+    (λ c. search needs)
+    (λ c. search needs)
+    (λ c. simp length-set (omega arith))
+    (λ c. search needs)
+    (λ c. search needs)
     returns)

@@ -37,6 +37,22 @@ returns-3 c =
 pub append-number-spec : {M : Type 1} → statement M
 append-number-spec =
     tie.close
-    (tie.spec (λ c. search needs) (λ c. search needs) (λ c. search needs) (λ c. search needs) (λ c. search needs) returns (λ c. search needs)
-    (λ c κs. search needs) (λ c. search needs) returns-2 (λ c. search needs) (λ c. search needs) (λ c. search needs) (λ c κs. search needs)
-    (λ c. omega (arith, end (c .before .before))) (λ c. omega (arith, end (c .before .before))) (λ c. search needs) returns-3)
+    (tie.spec
+    (λ c. search needs)
+    (λ c. search needs)
+    (λ c. search needs)
+    (λ c. search needs)
+    (λ c. search needs)
+    returns
+    (λ c. search needs)
+    (λ c κs. search needs)
+    (λ c. search needs)
+    returns-2
+    (λ c. search needs)
+    (λ c. search needs)
+    (λ c. search needs)
+    (λ c κs. search needs)
+    (λ c. omega (arith, end (c .before .before)))
+    (λ c. omega (arith, end (c .before .before)))
+    (λ c. search needs)
+    returns-3)

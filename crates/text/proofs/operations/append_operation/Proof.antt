@@ -34,6 +34,12 @@ returns c =
 pub append-operation-spec : {M : Type 1} → statement M
 append-operation-spec =
     tie.close
-    (tie.spec (λ c. search needs) (λ c. search needs) (λ c κs. simp length-set (omega arith)) (λ c. search needs) (λ c κs. search needs)
-    append-marked-requires (λ c. c .before .before .append-marked .kept .1 .1 .0 ∙ sized (c .before .before .before .before .before .before .before))
+    (tie.spec
+    (λ c. search needs)
+    (λ c. search needs)
+    (λ c κs. simp length-set (omega arith))
+    (λ c. search needs)
+    (λ c κs. search needs)
+    append-marked-requires
+    (λ c. c .before .before .append-marked .kept .1 .1 .0 ∙ sized (c .before .before .before .before .before .before .before))
     returns)

@@ -29,7 +29,15 @@ append-operation-requires c κs =
     let l = c .before .before .before .before .loop in
     let s = c .before .before .before .before .before .before .before .before in
     let codes = now (s .args .codes) in
-    omega (arith, l .inv, l .inv .0 .end, operations-length (take (l .i) codes) (take (l .i) (now (s .args .commands))), length-take-le (l .i) codes (l .inv .2), s .pre)
+    omega (
+      arith,
+      l .inv,
+      l .inv .0 .end,
+      operations-length (take (l .i) codes) (take (l .i) (now (s .args .commands))),
+      length-take-le
+          (l .i) codes (l .inv .2),
+      s .pre,
+    )
 
 loop-again : tie.Need-loop-again Inv-loop μ-loop
 loop-again c =
@@ -37,7 +45,8 @@ loop-again c =
     let l = d .before .before .before .before .before .loop in
     let s = d .before .before .before .before .before .before .before .before .before in
     let h : l .i < length (now (s .args .codes)) = omega arith in (
-      rw (first-more (now (s .args .codes)) (now (s .args .commands)) (l .i) (s .pre .0) h) (appended-more (l .inv .0) (d .append-operation .ensures)),
+      rw (first-more (now (s .args .codes)) (now (s .args .commands)) (l .i) (s .pre .0) h)
+          (appended-more (l .inv .0) (d .append-operation .ensures)),
       d .append-operation .kept .1 .1 .0 ∙ l .inv .1,
       search needs,
       search needs,
@@ -53,5 +62,15 @@ returns c =
 pub append-operations-spec : {M : Type 1} → statement M
 append-operations-spec =
     tie.close
-    (tie.spec Inv-loop μ-loop loop-holds (λ c. search needs) (λ c. search needs) append-operation-requires (λ c. search needs) (λ c. search needs)
-    loop-again (λ c. search needs) returns)
+    (tie.spec
+    Inv-loop
+    μ-loop
+    loop-holds
+    (λ c. search needs)
+    (λ c. search needs)
+    append-operation-requires
+    (λ c. search needs)
+    (λ c. search needs)
+    loop-again
+    (λ c. search needs)
+    returns)

@@ -23,11 +23,24 @@ returns-2 c =
     let d = c .before .before in
     let b = d .before .before in
     let s = b .before .before .before .before in
-    rw (phase-some (now (s .args .codes)) (now (s .args .commands)) (s .pre .0) (b .if1 .left)) (appended-more (appended-two _ _ _ _) (d .append-operations .ensures))
+    rw (phase-some (now (s .args .codes)) (now (s .args .commands)) (s .pre .0) (b .if1 .left))
+    (appended-more (appended-two _ _ _ _) (d .append-operations .ensures))
 
 pub append-phase-spec : {M : Type 1} → statement M
 append-phase-spec =
     tie.close
-    (tie.spec (λ c. search needs) (λ c. search needs) (λ c. simp length-set (omega arith)) (λ c. search needs) (λ c. simp length-set (omega arith))
-    (λ c. search needs) (λ c. simp length-set (omega arith)) (λ c. search needs) (λ c. search needs) returns (λ c. search needs)
-    (λ c κs. simp length-set (omega arith)) (λ c. simp length-set at (c .before .before .append-operations .kept .1 .1 .0)) returns-2)
+    (tie.spec
+    (λ c. search needs)
+    (λ c. search needs)
+    (λ c. simp length-set (omega arith))
+    (λ c. search needs)
+    (λ c. simp length-set (omega arith))
+    (λ c. search needs)
+    (λ c. simp length-set (omega arith))
+    (λ c. search needs)
+    (λ c. search needs)
+    returns
+    (λ c. search needs)
+    (λ c κs. simp length-set (omega arith))
+    (λ c. simp length-set at (c .before .before .append-operations .kept .1 .1 .0))
+    returns-2)

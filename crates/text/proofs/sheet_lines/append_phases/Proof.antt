@@ -8,7 +8,9 @@ use Rattle.text.proofs.sheet_lines.append_phases.Statement.{statement}
 use Rattle.text.proofs.sheet_lines.append_phases.Tie as tie
 
 returns : tie.Need-returns
-returns c = appended-more (c .before .before .before .before .before .before .before .before .append-phase .ensures) (c .before .before .append-phase2 .ensures)
+returns c =
+    appended-more (c .before .before .before .before .before .before .before .before .append-phase .ensures)
+    (c .before .before .append-phase2 .ensures)
 
 append-phase-requires-2 : tie.Need-append-phase-requires-2
 append-phase-requires-2 c κs =
@@ -19,7 +21,28 @@ append-phase-requires-2 c κs =
 pub append-phases-spec : {M : Type 1} → statement M
 append-phases-spec =
     tie.close
-    (tie.spec (λ c. search needs) (λ c. search needs) (λ c. search needs) (λ c. search needs) (λ c. search needs) (λ c. search needs) (λ c. search needs)
-    (λ c. search needs) (λ c. search needs) (λ c. search needs) (λ c. search needs) (λ c. search needs) (λ c. search needs) (λ c. search needs)
-    (λ c κs. search needs) (λ c. search needs) (λ c. search needs) (λ c. search needs) (λ c. search needs) (λ c. search needs) (λ c. search needs)
-    append-phase-requires-2 (λ c. search needs) returns)
+    (tie.spec
+    (λ c. search needs)
+    (λ c. search needs)
+    (λ c. search needs)
+    (λ c. search needs)
+    (λ c. search needs)
+    (λ c. search needs)
+    (λ c. search needs)
+    (λ c. search needs)
+    (λ c. search needs)
+    (λ c. search needs)
+    (λ c. search needs)
+    (λ c. search needs)
+    (λ c. search needs)
+    (λ c. search needs)
+    (λ c κs. search needs)
+    (λ c. search needs)
+    (λ c. search needs)
+    (λ c. search needs)
+    (λ c. search needs)
+    (λ c. search needs)
+    (λ c. search needs)
+    append-phase-requires-2
+    (λ c. search needs)
+    returns)

@@ -26,8 +26,18 @@ second d = d .before .before .before .before
 append-buses-requires : tie.Need-append-buses-requires
 append-buses-requires c κs =
     let d = c .before .before .before in
-    let s = start d in
-    (s .pre .2, s .pre .3, omega (arith, d .append-number .kept, d .append-number .ensures .end, decimal-length 3 (s .args .i) (s .pre .0), s .pre))
+    let s = start d in (
+      s .pre .2,
+      s .pre .3,
+      omega (
+        arith,
+        d .append-number .kept,
+        d .append-number .ensures .end,
+        decimal-length 3 (s .args .i)
+            (s .pre .0),
+        s .pre,
+      ),
+    )
 
 append-phases-requires : tie.Need-append-phases-requires
 append-phases-requires c κs =
@@ -35,14 +45,24 @@ append-phases-requires c κs =
     let d = first e in
     let s = start d in (
       s .pre .4,
-      omega
-          (arith, e .append-buses .kept, d .append-number .kept, e .append-buses .ensures .end, d .append-number .ensures .end, decimal-length 3 (s .args .i) (s .pre .0), buses-length (s .args .choices) (s .args .n) (s .pre .2) (s .pre .3), s .pre .4 .few, s .pre),
+      omega (
+        arith,
+        e .append-buses .kept,
+        d .append-number .kept,
+        e .append-buses .ensures .end,
+        d .append-number .ensures .end,
+        decimal-length 3 (s .args .i) (s .pre .0),
+        buses-length (s .args .choices) (s .args .n) (s .pre .2) (s .pre .3),
+        s .pre .4 .few,
+        s .pre,
+      ),
     )
 
 -- the whole line, which fits
 stored : (f : tie.After-append-phases)
     → let a = start (first (second f)) .args in
-    Appended (sheetLine (a .i) (a .n) (a .choices) (now (a .sheet))) (now (a .out)) 0 (set (f .append-phases .last .1 .0) (f .append-phases .result) 10)
+    Appended (sheetLine (a .i) (a .n) (a .choices) (now (a .sheet))) (now (a .out)) 0
+    (set (f .append-phases .last .1 .0) (f .append-phases .result) 10)
     (f .append-phases .result + 1)
 unfolding ascii
 stored f =
@@ -50,9 +70,11 @@ stored f =
     let d = first e in
     let s = start d in
     rw (line-parts (s .args .i) (s .args .n) (s .args .choices) (now (s .args .sheet)) (s .pre .1))
-    (appended-one 10 refl refl (appended-more (appended-more (d .append-number .ensures) (e .append-buses .ensures)) (f .append-phases .ensures)))
+    (appended-one 10 refl refl (appended-more (appended-more (d .append-number .ensures) (e .append-buses .ensures))
+    (f .append-phases .ensures)))
 
-fits : (f : tie.After-append-phases) → let a = start (first (second f)) .args in length (sheetLine (a .i) (a .n) (a .choices) (now (a .sheet))) ≤ length (now (a .out))
+fits : (f : tie.After-append-phases)
+    → let a = start (first (second f)) .args in length (sheetLine (a .i) (a .n) (a .choices) (now (a .sheet))) ≤ length (now (a .out))
 fits f =
     let s = start (first (second f)) in
     let p = s .pre in
@@ -64,7 +86,11 @@ sized f = f .append-phases .kept .1 .0 ∙ second f .append-buses .kept .1 .1 .0
 pub sheet-line-spec : {M : Type 1} → statement M
 sheet-line-spec =
     tie.close
-    (tie.spec (λ c κs. search needs) append-buses-requires append-phases-requires
+    (tie.spec
+    (λ c κs. search needs)
+    append-buses-requires
+    append-phases-requires
     (λ c. let f = c .before .before in omega (arith, stored f .end, fits f, sized f))
     (λ c. let f = c .before .before in omega (arith, stored f .end, fits f, start (first (second f)) .good))
-    (λ c. simp length-set (sized (c .before .before))) (λ c. let f = c .before .before in appended-all (stored f) (fits f)))
+    (λ c. simp length-set (sized (c .before .before)))
+    (λ c. let f = c .before .before in appended-all (stored f) (fits f)))
