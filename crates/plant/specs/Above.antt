@@ -12,10 +12,9 @@ use Rattle.model.specs.Plant.{PartHealth, parts, healthOfKind, busFeed}
 use Rattle.model.specs.Reports.{healthOf, commandsOf}
 use Rattle.model.specs.Refusals.{healthOutside, feedsRefusal}
 use Rattle.model.specs.Answers.{feedsAnswer}
-use Rattle.model.specs.Laws.Tests.{and-right}
+use Rattle.model.specs.Laws.Tests.{and-right, cond-ext}
 use Rattle.model.specs.Laws.Lists.{any-ext}
 use Rattle.model.specs.Laws.Parts.{parts-at, places-ext}
-use Rattle.model.specs.Laws.Tests.{cond-ext}
 use Rattle.theory.specs.Theorems.Locality.{Agree, feed-ext}
 
 -- the refusal, and the whole answer

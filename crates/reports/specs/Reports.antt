@@ -24,8 +24,18 @@ use Rattle.model.specs.declared.ReportAnswer.the-variants as report
 use Rattle.model.specs.Values.{partCode, wordNumber, outcomeOf, numbered, reportValues}
 use Rattle.model.specs.Plant.{InRing}
 use Rattle.model.specs.Reports.{partNamed, wordNamed}
-use Rattle.model.specs.Refusals.{firstMet, orElse, notOfRing, wordOfOtherKind, generatorFitAgain, reportConditions}
-use Rattle.model.specs.Refusals.{reportOf, reportAnswer, reportRefusal, reportsRefusal}
+use Rattle.model.specs.Refusals.{
+  firstMet,
+  orElse,
+  notOfRing,
+  wordOfOtherKind,
+  generatorFitAgain,
+  reportConditions,
+  reportOf,
+  reportAnswer,
+  reportRefusal,
+  reportsRefusal,
+}
 use Rattle.model.specs.Answers.{partAnswer, wordAnswer, reportAt, reportValuesAt}
 use Rattle.model.specs.Laws.Tests.{dec, dec-lt}
 use Rattle.model.specs.Laws.Reports.{code-named}
