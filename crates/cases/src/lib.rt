@@ -1,11 +1,10 @@
-// What the programs that run stored cases share: reading arrays from a case, comparing bytes.
+// What the programs that run stored cases share: an array of a case, and an outcome's number. Places are indices from 0.
 ghost use mathlib.Core.Path.{_≡_};
 ghost use Prim.Native.Nat.{_+_, _≤_};
 ghost use lib.Dec.{eqb};
 ghost use lib.ListN.{length, getD};
 ghost use Rattle.model.specs.Values.{outcomeNumber};
 ghost use Rattle.model.specs.Reports.{places};
-ghost use Rattle.cases.specs.Bytes.{sameBytes};
 use model::Outcome;
 
 // Twenty bytes of a case.
@@ -40,18 +39,4 @@ pub fn outcome_number(outcome: Outcome) -> u8
         Outcome::Served => 0,
         Outcome::Refused(k) => k,
     }
-}
-
-// Whether two stretches of bytes are the same.
-pub fn same_bytes(ours: &[u8], expected: &[u8]) -> bool
-    ensures { λ r. ⌜ r ≡ sameBytes (now (ours .entry)) (now (expected .entry)) ⌝ }
-{
-    if ours.len() != expected.len() {
-        return false;
-    }
-    let mut same = true;
-    for i in 0..ours.len() {
-        same &= ours[i] == expected[i];
-    }
-    same
 }

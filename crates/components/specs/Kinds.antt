@@ -25,17 +25,20 @@ unfolding healthOf healthOfKind
 beyond h s (Generator zero) l = absurd (omega arith)
 beyond h s (Generator (suc i)) l = rw (List·getD-eq-default (h .generators) 0 {n = i} (omega (arith, s .generators)))
 beyond h s (GeneratorBreaker zero) l = absurd (omega arith)
-beyond h s (GeneratorBreaker (suc i)) l = rw (List·getD-eq-default (h .«generator_breakers») 0 {n = i} (omega (arith, s .generator-breakers)))
+beyond h s (GeneratorBreaker (suc i)) l =
+    rw (List·getD-eq-default (h .«generator_breakers») 0 {n = i} (omega (arith, s .generator-breakers)))
 beyond h s (BusBreaker zero) l = absurd (omega arith)
 beyond h s (BusBreaker (suc i)) l = rw (List·getD-eq-default (h .«bus_breakers») 0 {n = i} (omega (arith, s .bus-breakers)))
 
 -- one part with a health of another kind
-pub some-outside : (h : Health) (n : ℕ) (p : Part) → InRing n p → healthOfKind p (healthOf h p) ≡ false → healthOutside (healthOf h) (parts n) ≡ true
+pub some-outside : (h : Health) (n : ℕ) (p : Part) → InRing n p → healthOfKind p (healthOf h p) ≡ false
+    → healthOutside (healthOf h) (parts n) ≡ true
 unfolding healthOutside
 some-outside h n p m e = some-part (λ q. not (healthOfKind q (healthOf h q))) n p m (not-of _ e)
 
 -- none among those that the arrays hold
-pub none-outside : (h : Health) → Sized h → (n : ℕ) → ((p : Part) → InRing (min n largest) p → OfKind h p) → healthOutside (healthOf h) (parts n) ≡ false
+pub none-outside : (h : Health) → Sized h → (n : ℕ) → ((p : Part) → InRing (min n largest) p → OfKind h p)
+    → healthOutside (healthOf h) (parts n) ≡ false
 unfolding healthOutside
 none-outside h s n held = no-part (λ q. not (healthOfKind q (healthOf h q))) n (λ p m. rw (go p m (dec-lt largest (number p))))
   where

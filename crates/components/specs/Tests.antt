@@ -1,4 +1,4 @@
--- What a function that tests numbers has to show, by cases of the numbers: however the code words its test.
+-- What a function that answers a test has to show, by cases of what is tested: however the code words its test.
 use mathlib.Core.Path.{_≡_, sym, _∙_}
 use mathlib.Core.Bool.{Bool, true, false, not, _&&_, _||_, or-assoc}
 use mathlib.Core.Logic.{_⊎_, inl, inr, _≢_}
@@ -8,23 +8,57 @@ use lib.Dec.{eqb}
 use borrow.Author.Tests.{eq-eqb, ne-eqb}
 use Rattle.model.specs.Plant.{smallest, largest, next, fit, stuckOff, stuckOpen, stuckClosed}
 use Rattle.model.specs.Refusals.{sizeOutside}
-use Rattle.model.specs.Laws.Tests.{dec, dec-lt, dec-eq}
+use Rattle.model.specs.Laws.Tests.{contra, dec, dec-lt, dec-eq}
 use Rattle.model.specs.Laws.Refusals.{outside, inside}
 
 -- the answer r is not false, or not true
-is-true : (r : Bool) → (r ≡ false → ⊥) → r ≡ true
+pub is-true : (r : Bool) → (r ≡ false → ⊥) → r ≡ true
 is-true r h = go (dec r)
   where
     go : (r ≡ true) ⊎ (r ≡ false) → r ≡ true
     go (inl e) = e
     go (inr e) = absurd (h e)
 
-is-false : (r : Bool) → (r ≡ true → ⊥) → r ≡ false
+pub is-false : (r : Bool) → (r ≡ true → ⊥) → r ≡ false
 is-false r h = go (dec r)
   where
     go : (r ≡ true) ⊎ (r ≡ false) → r ≡ false
     go (inl e) = absurd (h e)
     go (inr e) = e
+
+-- a call answered f, which a definition equates with a: what follows of f, and what cannot be
+module _ {f a : Bool} where
+  pub answers : {v : Bool} → f ≡ a → a ≡ v → f ≡ v
+  answers p q = p ∙ q
+
+  pub never-false : f ≡ a → f ≡ true → a ≡ false → ⊥
+  never-false p q e = contra q (p ∙ e)
+
+  pub never-true : f ≡ a → f ≡ false → a ≡ true → ⊥
+  never-true p q e = contra (p ∙ e) q
+
+pub never-both : {b : Bool} → b ≡ true → b ≡ false → ⊥
+never-both p q = contra p q
+
+pub ruleset outcomes = (answers, never-false, never-true, never-both)
+
+-- two tests, both of them or either
+module _ (a b r : Bool) where
+  pub both-test : (a ≡ true → b ≡ true → r ≡ true) → (a ≡ false → r ≡ false) → (b ≡ false → r ≡ false) → r ≡ a && b
+  both-test p q s = go (dec a) (dec b)
+    where
+      go : (a ≡ true) ⊎ (a ≡ false) → (b ≡ true) ⊎ (b ≡ false) → r ≡ a && b
+      go (inl e) (inl f) = rw (e, f) (p e f)
+      go (inl e) (inr f) = rw (e, f) (s f)
+      go (inr e) f = rw e (q e)
+
+  pub either-test : (a ≡ true → r ≡ true) → (b ≡ true → r ≡ true) → (a ≡ false → b ≡ false → r ≡ false) → r ≡ a || b
+  either-test p q s = go (dec a) (dec b)
+    where
+      go : (a ≡ true) ⊎ (a ≡ false) → (b ≡ true) ⊎ (b ≡ false) → r ≡ a || b
+      go (inl e) f = rw e (p e)
+      go (inr e) (inl f) = rw (e, f) (q f)
+      go (inr e) (inr f) = rw (e, f) (s e f)
 
 -- a is b; or else a test t; and not b, together with a test t
 module _ (a b : ℕ) where
@@ -60,7 +94,8 @@ next-test n k r p q = go (dec-eq (k + 1) n)
 
 -- 2: "n below 3 or above 20"
 module _ (n : ℕ) (r : Bool) where
-  pub size-test : (n < smallest → r ≡ false → ⊥) → (largest < n → r ≡ false → ⊥) → (smallest ≤ n → n ≤ largest → r ≡ true → ⊥) → r ≡ sizeOutside n
+  pub size-test : (n < smallest → r ≡ false → ⊥) → (largest < n → r ≡ false → ⊥) → (smallest ≤ n → n ≤ largest → r ≡ true → ⊥)
+      → r ≡ sizeOutside n
   size-test low high within = go (dec-lt n smallest) (dec-lt largest n)
     where
       go : (n < smallest) ⊎ (smallest ≤ n) → (largest < n) ⊎ (n ≤ largest) → r ≡ sizeOutside n

@@ -26,11 +26,12 @@ use Rattle.model.specs.declared.ReportAnswer.the-variants as report
 use Rattle.model.specs.declared.FileAnswer.{FileAnswer}
 use Rattle.model.specs.declared.FileAnswer.the-variants as file
 use Rattle.model.specs.Values.{outcomeOf, numbered}
-use Rattle.model.specs.Plant.{PartHealth, feeders, busFeed}
+use Rattle.model.specs.Plant.{feeders, busFeed}
 use Rattle.model.specs.Choosing.{pathValues, planValues, choices}
 use Rattle.model.specs.Sheet.{written}
 use Rattle.model.specs.Reports.{fileSize, fileCount, places, healthOf, commandsOf, blankRing, told, withPlan}
-use Rattle.model.specs.Refusals.{sheetRefusal, startRefusal, stepRefusal, feedsRefusal, fileRefusal, codeRefusal, byteRefusal, reportAnswer, reportRefusal, nextSheet}
+use Rattle.model.specs.Refusals.{sheetRefusal, startRefusal, stepRefusal, feedsRefusal, fileRefusal, codeRefusal, byteRefusal, reportAnswer}
+use Rattle.model.specs.Refusals.{reportRefusal, nextSheet}
 
 -- the part that a code names in a ring of n, or refusal 5
 unfoldable pub partAnswer : Option Part → PartAnswer
@@ -52,7 +53,8 @@ byteValues v = numbered (byteRefusal v) (v ∷ [])
 
 -- the i-th report, from 0, of the part codes and words of a file; none past the end of either
 unfoldable pub reportAt : ℕ → List ℕ → List ℕ → ℕ → ReportAnswer
-reportAt n codes words i = cond (ltb i (length codes) && ltb i (length words)) (reportAnswer n (getD codes i 0) (getD words i 0)) report.Missing
+reportAt n codes words i =
+    cond (ltb i (length codes) && ltb i (length words)) (reportAnswer n (getD codes i 0) (getD words i 0)) report.Missing
 
 -- .. by its code and its word; neither number nor values where there is no report
 unfoldable pub reportValuesAt : ℕ → List ℕ → List ℕ → ℕ → ℕ × List ℕ

@@ -28,7 +28,8 @@ countedClosed n H ws i = stuckClosed (H (busBreaker i)) || onPaths n ws (busBrea
 
 -- "no two chosen generators' buses would be joined"
 unfoldable pub isolated : ℕ → PartHealth → List Path → Bool
-isolated n H ws = allOf (λ v. allOf (λ w. eqb (v .source) (w .source) || not (connected n (countedClosed n H ws) (v .source) (w .source))) ws) ws
+isolated n H ws =
+    allOf (λ v. allOf (λ w. eqb (v .source) (w .source) || not (connected n (countedClosed n H ws) (v .source) (w .source))) ws) ws
 
 -- "A way is permitted when ..": path w, after the paths ws; "The way's own generator counts as chosen here."
 unfoldable pub permitted : ℕ → PartHealth → List Path → Path → Bool

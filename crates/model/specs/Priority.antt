@@ -26,7 +26,8 @@ pub record Path : Type 0 where
 
 -- "the bus breakers from its own bus to the bus fed, and none beyond", from the generator's bus outward
 unfoldable pub pathBusBreakers : ℕ → Path → List ℕ
-pathBusBreakers n p = cond (p .rising) (arc n (p .source) (up n (p .source) (p .bus))) (reverse (arc n (p .bus) (up n (p .bus) (p .source))))
+pathBusBreakers n p =
+    cond (p .rising) (arc n (p .source) (up n (p .source) (p .bus))) (reverse (arc n (p .bus) (up n (p .bus) (p .source))))
 
 -- "its generator breaker and the bus breakers ..": the breakers of a path, outward
 unfoldable pub pathBreakers : ℕ → Path → List Part

@@ -21,8 +21,7 @@ use Rattle.model.specs.Values.{number, choiceSource, choiceLetter}
 use Rattle.model.specs.Plant.{largest}
 use Rattle.model.specs.Choosing.{choices}
 use Rattle.model.specs.Sheet.{opening, closing}
-use Rattle.model.specs.Reports.{fileSize, fileCount, fileCodes, fileWords}
-use Rattle.model.specs.Reports.{healthOf, commandsOf, blankRing, told, planned, withPlan}
+use Rattle.model.specs.Reports.{fileSize, fileCount, fileCodes, fileWords, healthOf, commandsOf, blankRing, told, planned, withPlan}
 use Rattle.model.specs.Refusals.{fileRefusal}
 use Rattle.model.specs.Answers.{reportAt}
 

@@ -16,6 +16,7 @@ use Rattle.model.specs.declared.Choice.the-variants as choice
 use Rattle.model.specs.declared.BusChoice.{BusChoice}
 use Rattle.model.specs.declared.Feed.{Feed}
 use Rattle.model.specs.declared.Feed.the-variants as feed
+use Rattle.model.specs.declared.BusFeed.{BusFeed}
 use Rattle.model.specs.declared.PartAnswer.{PartAnswer}
 use Rattle.model.specs.declared.PartAnswer.the-variants as part
 use Rattle.model.specs.declared.WordAnswer.{WordAnswer}
@@ -85,6 +86,10 @@ abbrev pub feedSources : Feed → List ℕ
 feedSources feed.Dark = []
 feedSources (feed.Fed g) = g ∷ []
 feedSources (feed.Clash g h) = g ∷ h ∷ []
+
+-- the generators that each bus's answer names
+unfoldable pub feedValues : List BusFeed → List (List ℕ)
+feedValues bs = map (λ (b : BusFeed). feedSources (b .feed)) bs
 
 -- a choice's generator and letter, bus by bus
 unfoldable pub choiceValues : List BusChoice → List (ℕ × ℕ)

@@ -36,7 +36,8 @@ module _ {A : Type 0} (x d : A) where
   both true false y = refl
   both false t y = refl
 
-  set-all-at : (is : List ℕ) (l : List A) (v : ℕ) → ((i : ℕ) → i ∈ is → i < length l) → getD (setAll x is l) v d ≡ cond (anyOf (eqb v) is) x (getD l v d)
+  set-all-at : (is : List ℕ) (l : List A) (v : ℕ) → ((i : ℕ) → i ∈ is → i < length l)
+      → getD (setAll x is l) v d ≡ cond (anyOf (eqb v) is) x (getD l v d)
   unfolding setAll anyOf
   set-all-at [] l v h = refl
   set-all-at (i ∷ is) l v h =

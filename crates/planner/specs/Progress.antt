@@ -1,4 +1,5 @@
 -- What is kept from bus to bus while they are served, and the laws that serving a bus keeps it.
+-- Buses, generators and breakers are indices from 0; an owner is a generator's number, from 1, or 0.
 use mathlib.Core.Path.{_≡_, refl, sym, _∙_, ap}
 use mathlib.Core.Bool.{Bool, true, false, _||_, cond}
 use mathlib.Core.Logic.{_⊎_, inl, inr}
@@ -25,10 +26,10 @@ use Rattle.model.specs.Reports.{places, healthOf, commandPlaces}
 use Rattle.model.specs.Laws.Tests.{iff, dec, dec-lt, below-other, below-last}
 use Rattle.model.specs.Laws.Lists.{any-at, any-in, first-at, first-ext}
 use Rattle.model.specs.Laws.Parts.{same-eq, same-refl, places-at, places-ext, places-set, set-places, is-places}
-use Rattle.theory.specs.Connected.{connected-ext}
-use Rattle.theory.specs.Paths.{Ends, path-at, path-in, source-on, breaker-on, line-on, generator-on, generator-breaker-on, bus-breaker-on}
-use Rattle.theory.specs.Paths.{pathTo, tried-at}
-use Rattle.theory.specs.Choosing.{safe-chosen, chosen-ends}
+use Rattle.theory.specs.Theorems.Connected.{connected-ext}
+use Rattle.theory.specs.Proofs.Paths.{Ends, path-at, path-in, source-on, breaker-on, line-on, generator-on, generator-breaker-on, bus-breaker-on}
+use Rattle.theory.specs.Proofs.Paths.{pathTo, tried-at}
+use Rattle.theory.specs.Proofs.Choosing.{safe-chosen, chosen-ends}
 use Rattle.planner.specs.declared.progress.Progress.{Progress}
 use Rattle.planner.specs.declared.search.Span.{Span}
 use Rattle.planner.specs.declared.search.Found.{Found}
@@ -58,7 +59,12 @@ breakersOf H i = H (busBreaker i)
 
 -- the commands with a generator and its breaker on, and these bus breakers
 abbrev pub commandsWith : Progress → ℕ → List Bool → Commands
-commandsWith s g l = record { generators = set (s .commands .generators) g true; «generator_breakers» = set (s .commands .«generator_breakers») g true; «bus_breakers» = l }
+commandsWith s g l =
+    record {
+      generators = set (s .commands .generators) g true;
+      «generator_breakers» = set (s .commands .«generator_breakers») g true;
+      «bus_breakers» = l;
+    }
 
 -- the bus breakers of path w, outward
 abbrev pub pathLine : ℕ → Path → List ℕ
@@ -71,14 +77,18 @@ taken n H s w =
     let g = suc (w .source) in
     record {
       last = record { choice = choiceOf n (some w) };
-      owners = setAll g (reach n (closedBy (breakersOf H) l) false (w .bus) n) (setAll g (reach n (closedBy (breakersOf H) l) true (w .bus) n) (s .owners));
+      owners =
+          setAll g (reach n (closedBy (breakersOf H) l) false (w .bus) n)
+          (setAll g (reach n (closedBy (breakersOf H) l) true (w .bus) n) (s .owners));
       commands = commandsWith s (w .source) l;
     }
 
 -- the same from what code finds on the way: what the path is called, its generator's number, its span, the breakers and the owners
 pub taken-by : (n : ℕ) (H : PartHealth) (s : Progress) (w : Path) (c : Choice) (g : ℕ) (p : Span) (l : List Bool) (o o′ : List ℕ)
-    → c ≡ choiceOf n (some w) → g ≡ suc (w .source) → p ≡ spanOf n w → l ≡ setAll true (outward n (w .rising) (w .source) (p .steps)) (s .commands .«bus_breakers»)
-    → o ≡ setAll g (reach n (closedBy (breakersOf H) l) true (w .bus) n) (s .owners) → o′ ≡ setAll g (reach n (closedBy (breakersOf H) l) false (w .bus) n) o
+    → c ≡ choiceOf n (some w) → g ≡ suc (w .source) → p ≡ spanOf n w
+    → l ≡ setAll true (outward n (w .rising) (w .source) (p .steps)) (s .commands .«bus_breakers»)
+    → o ≡ setAll g (reach n (closedBy (breakersOf H) l) true (w .bus) n) (s .owners)
+    → o′ ≡ setAll g (reach n (closedBy (breakersOf H) l) false (w .bus) n) o
     → record { last = record { choice = c }; owners = o′; commands = commandsWith s (w .source) l } ≡ taken n H s w
 unfolding taken
 taken-by n H s w c g p l o o′ ec eg ep el eo eo′ = rw (eo′, eo, el, ep, eg, ec)
@@ -99,7 +109,8 @@ on-more : (n : ℕ) (ws : List Path) (w : Path) (p : Part) (t : Bool) → (t ≡
 unfolding onPaths anyOf
 on-more n ws w p t f g =
     either t (onPaths n ws p)
-    ∙ ap (λ x. x || onPaths n ws p) (iff t (anyOf (samePart p) (pathParts n w)) (λ e. any-in (samePart p) (f e) (same-refl p)) (λ e. g (member e)))
+    ∙ ap (λ x. x || onPaths n ws p) (iff t (anyOf (samePart p) (pathParts n w)) (λ e. any-in (samePart p) (f e) (same-refl p))
+    (λ e. g (member e)))
   where
     either : (a c : Bool) → cond a true c ≡ a || c
     either true c = refl
@@ -109,11 +120,13 @@ on-more n ws w p t f g =
     member e = let s = any-at (samePart p) (pathParts n w) e in rw (same-eq p (s .0) (s .2)) (s .1)
 
 -- parts of one kind that go with the path's generator
-module _ (n : ℕ) (ws : List Path) (w : Path) (part : ℕ → Part) (on : part (w .source) ∈ pathParts n w) (only : (v : ℕ) → part v ∈ pathParts n w → v ≡ w .source) where
+module _ (n : ℕ) (ws : List Path) (w : Path) (part : ℕ → Part) (on : part (w .source) ∈ pathParts n w)
+    (only : (v : ℕ) → part v ∈ pathParts n w → v ≡ w .source) where
   source-set : set (places (λ v. onPaths n ws (part v))) (w .source) true ≡ places (λ v. onPaths n (w ∷ ws) (part v))
   source-set =
       set-places (λ v. onPaths n ws (part v)) true (w .source)
-      ∙ places-ext _ _ (λ v l. on-more n ws w (part v) (eqb v (w .source)) (λ e. rw (eqb-true v (w .source) e) on) (λ m. eq-eqb v (w .source) (only v m)))
+      ∙ places-ext _ _ (λ v l. on-more n ws w (part v) (eqb v (w .source)) (λ e. rw (eqb-true v (w .source) e) on)
+      (λ m. eq-eqb v (w .source) (only v m)))
 
 bus-breaker-more : (n : ℕ) (ws : List Path) (w : Path) (v : ℕ) → Ends n w
     → cond (anyOf (eqb v) (pathLine n w)) true (onPaths n ws (busBreaker v)) ≡ onPaths n (w ∷ ws) (busBreaker v)
@@ -168,7 +181,11 @@ module _ (n : ℕ) (H : PartHealth) (b : ℕ) (hb : b < n) where
         → commandsWith (served n H b) (w .source) l ≡ commandPlaces (onPaths n (w ∷ chosen n H b))
     unfolding served commandPlaces
     commanded l e =
-        rw (e, source-set n (chosen n H b) w generator (source-on n w) (generator-on n w), source-set n (chosen n H b) w generatorBreaker (breaker-on n w) (generator-breaker-on n w))
+        rw (
+          e,
+          source-set n (chosen n H b) w generator (source-on n w) (generator-on n w),
+          source-set n (chosen n H b) w generatorBreaker (breaker-on n w) (generator-breaker-on n w),
+        )
 
     -- where the walks from the path's bus go by the breakers l, which count the path
     module _ (l : List Bool) (is : l ≡ places (λ i. onPaths n (w ∷ chosen n H b) (busBreaker i))) where
@@ -192,10 +209,16 @@ module _ (n : ℕ) (H : PartHealth) (b : ℕ) (hb : b < n) where
               absurd (omega (arith, eqb-true v (t .0) (t .2), reach-at n counted r n (w .bus) (t .0) bus-lt (t .1) .0))
           go (inr q) = q
 
-      owns : setAll (suc (w .source)) (reach n counted false (w .bus) n) (setAll (suc (w .source)) (reach n counted true (w .bus) n) (served n H b .owners)) ≡ places (λ v. cond (ltb v n) (owner n H (w ∷ chosen n H b) v) 0)
+      owns :
+          let g = suc (w .source) in
+          setAll g (reach n counted false (w .bus) n) (setAll g (reach n counted true (w .bus) n) (served n H b .owners))
+          ≡ places (λ v. cond (ltb v n) (owner n H (w ∷ chosen n H b) v) 0)
       unfolding served choose plan
       owns =
-          rw (set-all-places old g (reach n counted true (w .bus) n) (inside true), set-all-places (λ v. cond (rises v) g (old v)) g (reach n counted false (w .bus) n) (inside false))
+          rw (
+            set-all-places old g (reach n counted true (w .bus) n) (inside true),
+            set-all-places (λ v. cond (rises v) g (old v)) g (reach n counted false (w .bus) n) (inside false),
+          )
           (places-ext _ _ (λ v h. each v (dec-lt v n)))
         where
           g : ℕ
@@ -211,12 +234,17 @@ module _ (n : ℕ) (H : PartHealth) (b : ℕ) (hb : b < n) where
           inside r i m = omega (arith, reach-at n counted r n (w .bus) i bus-lt m .0)
 
           each : (v : ℕ) → (v < n) ⊎ (n ≤ v)
-              → cond (anyOf (eqb v) (reach n counted false (w .bus) n)) g (cond (rises v) g (old v)) ≡ cond (ltb v n) (owner n H (w ∷ chosen n H b) v) 0
+              → cond (anyOf (eqb v) (reach n counted false (w .bus) n)) g (cond (rises v) g (old v))
+              ≡ cond (ltb v n) (owner n H (w ∷ chosen n H b) v) 0
           each v (inl hv) =
               rw (lt-ltb v n hv)
               (both g g (rises v) (anyOf (eqb v) (reach n counted false (w .bus) n)) (owner n H (chosen n H b) v)
-              ∙ rw (reach-connected n counted (w .bus) v bus-lt hv, connected-ext n counted (countedClosed n H (w ∷ chosen n H b)) (w .bus) v bus-lt hv counted-is)
-              (sym (owner-more (safe-chosen n H b (omega arith)) (ends .0) (first-at (permitted n H (chosen n H b)) (paths n b) w e .1) (w .bus) v (ends-in (ends .0) .1) hv)))
+              ∙ rw (
+                reach-connected n counted (w .bus) v bus-lt hv,
+                connected-ext n counted (countedClosed n H (w ∷ chosen n H b)) (w .bus) v bus-lt hv counted-is,
+              )
+              (sym (owner-more (safe-chosen n H b (omega arith)) (ends .0)
+              (first-at (permitted n H (chosen n H b)) (paths n b) w e .1) (w .bus) v (ends-in (ends .0) .1) hv)))
           each v (inr hv) = rw (not-reached true v hv, not-reached false v hv, le-ltb v n hv)
 
     pub served-path : taken n H (served n H b) w ≡ served n H (b + 1)
@@ -233,7 +261,8 @@ module _ (n : ℕ) (h : Health) (b : ℕ) (usable : List Bool) (s : Progress) (f
   unfolding served passes passesBy healthOf
   found-plan =
       served-choice n (healthOf h) b hb owners (λ v hv. places-at held v 0 (omega arith) ∙ rw (lt-ltb v n hv))
-      ∙ first-ext (passes n (healthOf h) owners) (passesBy n (places (mayFeed (healthOf h))) (h .«bus_breakers») (served n (healthOf h) b .owners)) (paths n b)
+      ∙ first-ext (passes n (healthOf h) owners)
+      (passesBy n (places (mayFeed (healthOf h))) (h .«bus_breakers») (served n (healthOf h) b .owners)) (paths n b)
       (λ w m. rw (places-at (mayFeed (healthOf h)) (w .source) false (omega (arith, tried-at n b w hb m .0))))
       ∙ sym (rw (may, is) at finds)
     where
@@ -256,6 +285,19 @@ module _ (n : ℕ) (h : Health) (b : ℕ) (usable : List Bool) (s : Progress) (f
 
 -- ---- before the first bus and after the last
 
+-- no bus is served: the arrays that code begins with
+abbrev pub noProgress : Progress
+noProgress =
+    record {
+      last = record { choice = Dark };
+      owners = replicate largest 0;
+      commands = record {
+        generators = replicate largest false;
+        «generator_breakers» = replicate largest false;
+        «bus_breakers» = replicate largest false;
+      };
+    }
+
 blank : {A : Type 0} (f : ℕ → A) (d : A) → ((v : ℕ) → v < largest → f v ≡ d) → replicate largest d ≡ places f
 blank f d h = is-places f (replicate largest d) d (length-replicate largest d) (λ v l. getD-replicate largest v d d l ∙ sym (h v l))
 
@@ -264,7 +306,7 @@ same true x = refl
 same false x = refl
 
 module _ (n : ℕ) (H : PartHealth) where
-  pub served-none : record { last = record { choice = Dark }; owners = replicate largest 0; commands = record { generators = replicate largest false; «generator_breakers» = replicate largest false; «bus_breakers» = replicate largest false } } ≡ served n H 0
+  pub served-none : noProgress ≡ served n H 0
   unfolding served chosen lastChoice owner onPaths first anyOf commandPlaces
   served-none =
       rw (blank (λ v. cond (ltb v n) (owner n H [] v) 0) 0 (λ v l. same (ltb v n) 0), blank (λ p. false) false (λ v l. refl))
@@ -277,7 +319,8 @@ module _ (n : ℕ) (H : PartHealth) where
   unfolding choicesTo served lastChoice
   choices-more b =
       let last : lastChoice n H (b + 1) ≡ choiceOf n (plan n H b) = rw (add-one b) in
-      rw last (rw (below-last (choiceOf n (plan n H b)) Dark b) at (places-set (chosenTo b) (chosenTo (b + 1)) b (λ v ne. rw (below-other (choiceOf n (plan n H v)) Dark v b ne))))
+      rw last (rw (below-last (choiceOf n (plan n H b)) Dark b)
+      at (places-set (chosenTo b) (chosenTo (b + 1)) b (λ v ne. rw (below-other (choiceOf n (plan n H v)) Dark v b ne))))
     where
       chosenTo : ℕ → ℕ → BusChoice
       chosenTo k v = record { choice = cond (ltb v k) (choiceOf n (plan n H v)) Dark }

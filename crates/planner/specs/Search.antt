@@ -1,4 +1,5 @@
 -- The search over the sources of a bus and their paths: what a path is asked, and what is left to try.
+-- Buses, generators and breakers are indices from 0; an owner is a generator's number, from 1, or 0.
 use mathlib.Core.Path.{_≡_, refl, sym, _∙_}
 use mathlib.Core.Bool.{Bool, true, false, not, _&&_, cond}
 use mathlib.Core.Logic.{_⊎_, inl, inr, _≢_}
@@ -15,9 +16,9 @@ use Rattle.model.specs.Lists.{first}
 use Rattle.model.specs.Plant.{up}
 use Rattle.model.specs.Priority.{Path, sources, highRises, pathsFrom, paths}
 use Rattle.model.specs.Laws.Tests.{contra, and-left, and-right, and-intro, dec, dec-eq, dec-lt}
-use Rattle.theory.specs.Geometry.{up-lt}
-use Rattle.theory.specs.Priorities.{sources-length}
-use Rattle.theory.specs.Paths.{lower, upper, Ends, lower-lt, upper-lt, pathTo}
+use Rattle.theory.specs.Proofs.Geometry.{up-lt}
+use Rattle.theory.specs.Theorems.Priorities.{sources-length}
+use Rattle.theory.specs.Proofs.Paths.{lower, upper, Ends, lower-lt, upper-lt, pathTo}
 use Rattle.planner.specs.declared.search.Span.{Span}
 use Rattle.planner.specs.declared.search.Found.{Found}
 use Rattle.planner.specs.declared.search.Found.the-variants as found
@@ -105,7 +106,8 @@ paths-next : (n b g p : ℕ) → p < pathCount b g → drop p (pathsFrom n b g) 
 unfolding pathsFrom
 paths-next n b g p l = go p l (dec-eq g b)
   where
-    go : (p : ℕ) → p < pathCount b g → (g ≡ b) ⊎ (g ≢ b) → drop p (pathsFrom n b g) ≡ pathTo b g (pathRises n b g p) ∷ drop (p + 1) (pathsFrom n b g)
+    go : (p : ℕ) → p < pathCount b g → (g ≡ b) ⊎ (g ≢ b)
+        → drop p (pathsFrom n b g) ≡ pathTo b g (pathRises n b g p) ∷ drop (p + 1) (pathsFrom n b g)
     go zero l (inl e) = rw (eq-eqb g b e, e, own-rises n b)
     go (suc p) l (inl e) = let z : suc p < 1 = rw (eq-eqb g b e) at l in absurd (omega arith)
     go zero l (inr e) = rw (ne-eqb g b e)
@@ -130,12 +132,14 @@ count-most b g p l = go (dec (eqb g b))
 -- ---- one turn
 
 -- a path that passes is a candidate's
-pub passes-candidate : (n : ℕ) (usable : List Bool) (breakers owners : List ℕ) (w : Path) → Ends n w → passesBy n usable breakers owners w ≡ true
+pub passes-candidate : (n : ℕ) (usable : List Bool) (breakers owners : List ℕ) (w : Path) → Ends n w
+    → passesBy n usable breakers owners w ≡ true
     → candidateBy usable owners (w .bus) (w .source) ≡ true
 unfolding passesBy
 passes-candidate n usable breakers owners w h p =
     let u = getD usable (w .source) false in
-    let c = clear-at n (at breakers) (at owners) (suc (w .source)) (upper w) (upper-lt h) (pathSteps n w) (lower w) (lower-lt h) refl (and-right u _ p) in
+    let c = clear-at n (at breakers) (at owners) (suc (w .source)) (upper w) (upper-lt h) (pathSteps n w) (lower w) (lower-lt h) refl
+    (and-right u _ p) in
     and-intro u _ (and-left u _ p)
     (and-intro (free (getD owners (w .bus) 0) (suc (w .source))) _ (c .buses (w .bus) (ends-in h .1)) (c .buses (w .source) (ends-in h .0)))
 
@@ -146,15 +150,19 @@ module _ (n : ℕ) (usable : List Bool) (breakers owners : List ℕ) (b g p : �
   tried-none l = rw (le-ltb p (pathCount b g) l)
 
   -- it is no candidate
-  pub tried-no-candidate : {k : Bool} → b < n → g < n → k ≡ candidateBy usable owners b g → not k ≡ true → false ≡ triedBy n usable breakers owners b g p
+  pub tried-no-candidate : {k : Bool} → b < n → g < n → k ≡ candidateBy usable owners b g → not k ≡ true
+      → false ≡ triedBy n usable breakers owners b g p
   unfolding triedBy
   tried-no-candidate {k} hb hg e out = go (dec (triedBy n usable breakers owners b g p))
     where
       w : Path
       w = pathTo b g (pathRises n b g p)
 
-      go : (triedBy n usable breakers owners b g p ≡ true) ⊎ (triedBy n usable breakers owners b g p ≡ false) → false ≡ triedBy n usable breakers owners b g p
-      go (inl q) = contra (passes-candidate n usable breakers owners w (record { source = hg; bus = hb }) (and-right (ltb p (pathCount b g)) _ q)) (sym e ∙ not-true k out)
+      go : (triedBy n usable breakers owners b g p ≡ true) ⊎ (triedBy n usable breakers owners b g p ≡ false)
+          → false ≡ triedBy n usable breakers owners b g p
+      go (inl q) =
+          contra (passes-candidate n usable breakers owners w (record { source = hg; bus = hb })
+          (and-right (ltb p (pathCount b g)) _ q)) (sym e ∙ not-true k out)
       go (inr q) = sym q
 
   -- a candidate's path passes as its walk says
@@ -172,7 +180,8 @@ pub record Left (n : ℕ) (usable : List Bool) (breakers owners : List ℕ) (b :
 
 module _ {n : ℕ} {usable : List Bool} {breakers owners : List ℕ} {b : ℕ} {f : Found} where
   -- the next generator: all of its paths are left
-  pub left-source : (r : ℕ) → b < n → r < n → Left n usable breakers owners b f (pathsAfter n b r) → Left n usable breakers owners b f (pathsLeft n b r 0)
+  pub left-source : (r : ℕ) → b < n → r < n → Left n usable breakers owners b f (pathsAfter n b r)
+      → Left n usable breakers owners b f (pathsLeft n b r 0)
   unfolding flatMap
   left-source r hb hr l = record {
     nothing = l .nothing;
@@ -191,13 +200,16 @@ module _ {n : ℕ} {usable : List Bool} {breakers owners : List ℕ} {b : ℕ} {
       missed : triedBy n usable breakers owners b s p ≡ false
       missed = rw e at (sym d ∙ z)
 
-      go : (p < pathCount b s) ⊎ (pathCount b s ≤ p) → first (passesBy n usable breakers owners) (pathsLeft n b r p) ≡ first (passesBy n usable breakers owners) (pathsLeft n b r (p + 1))
+      go : (p < pathCount b s) ⊎ (pathCount b s ≤ p)
+          → first (passesBy n usable breakers owners) (pathsLeft n b r p)
+          ≡ first (passesBy n usable breakers owners) (pathsLeft n b r (p + 1))
       go (inl h) = rw (paths-next n b s p h, rw (lt-ltb p (pathCount b s) h) at missed)
       go (inr h) = rw (paths-done n b s p h, paths-done n b s (p + 1) (omega arith))
 
   -- or does
   pub left-hit : (r p : ℕ) {g : ℕ} {t rising : Bool} → g ≡ getD (sources n b) r 0 → t ≡ triedBy n usable breakers owners b g p → t ≡ true
-      → rising ≡ pathRises n b g p → Left n usable breakers owners b f (pathsLeft n b r p) → some (pathTo b g rising) ≡ first (passesBy n usable breakers owners) (paths n b)
+      → rising ≡ pathRises n b g p → Left n usable breakers owners b f (pathsLeft n b r p)
+      → some (pathTo b g rising) ≡ first (passesBy n usable breakers owners) (paths n b)
   unfolding triedBy first
   left-hit r p e d z q l = rw (q, e) (sym (l .left ∙ rw (paths-next n b s p count, passed)))
     where
@@ -214,20 +226,23 @@ module _ {n : ℕ} {usable : List Bool} {breakers owners : List ℕ} {b : ℕ} {
       passed = and-right (ltb p (pathCount b s)) _ found
 
   -- it has no path more
-  pub left-next : (r p : ℕ) → 2 ≤ p → Left n usable breakers owners b f (pathsLeft n b r p) → Left n usable breakers owners b f (pathsAfter n b (r + 1))
+  pub left-next : (r p : ℕ) → 2 ≤ p → Left n usable breakers owners b f (pathsLeft n b r p)
+      → Left n usable breakers owners b f (pathsAfter n b (r + 1))
   left-next r p h l = record {
     nothing = l .nothing;
     left = l .left ∙ rw (paths-done n b (getD (sources n b) r 0) p (count-most b (getD (sources n b) r 0) p h));
   }
 
   -- there is no generator more
-  pub left-none : (r : ℕ) → b < n → n ≤ r → Left n usable breakers owners b f (pathsAfter n b r) → pathFound b f ≡ first (passesBy n usable breakers owners) (paths n b)
+  pub left-none : (r : ℕ) → b < n → n ≤ r → Left n usable breakers owners b f (pathsAfter n b r)
+      → pathFound b f ≡ first (passesBy n usable breakers owners) (paths n b)
   unfolding first flatMap
   left-none r hb h l =
       let z : length (sources n b) ≤ r = omega (arith, sources-length n b hb) in
       rw (l .nothing) (sym (l .left ∙ rw (drop-of-length-le (sources n b) z)))
 
 -- before the first turn
-pub left-start : (n : ℕ) (usable : List Bool) (breakers owners : List ℕ) (b : ℕ) → Left n usable breakers owners b found.Nothing (pathsAfter n b 0)
+pub left-start : (n : ℕ) (usable : List Bool) (breakers owners : List ℕ) (b : ℕ)
+    → Left n usable breakers owners b found.Nothing (pathsAfter n b 0)
 unfolding paths
 left-start n usable breakers owners b = record { nothing = refl; left = refl }

@@ -1,4 +1,5 @@
 -- The rule by which code finds the source at each place of a bus's priority, and the law that it is the model's list.
+-- Buses, generators and places are indices from 0.
 use mathlib.Core.Path.{_≡_, refl, sym, _∙_, ap}
 use mathlib.Core.Bool.{Bool, true, not, cond}
 use mathlib.Core.Logic.{_⊎_, inl, inr, _≢_}
@@ -50,7 +51,10 @@ upward-in a (suc k) x m = go (upward-in (suc a) k x) (List·Memᴰ·cases-cons m
 upward-split : (a j k : ℕ) → upward a (j + k) ≡ upward a j ++ upward (a + j) k
 unfolding upward
 upward-split a zero k = let y : 0 + k ≡ k = omega arith in let z : a + 0 ≡ a = omega arith in rw (y, z)
-upward-split a (suc j) k = let y : suc j + k ≡ suc (j + k) = omega arith in let z : a + suc j ≡ suc a + j = omega arith in rw (y, z, upward-split (suc a) j k)
+upward-split a (suc j) k =
+    let y : suc j + k ≡ suc (j + k) = omega arith in
+    let z : a + suc j ≡ suc a + j = omega arith in
+    rw (y, z, upward-split (suc a) j k)
 
 below-upward : (n : ℕ) → below n ≡ upward 0 n
 unfolding below upward
@@ -74,7 +78,8 @@ others-upward n h =
     rw e (keep-all (leb 2) (upward 2 (n - 2)) (λ x m. le-leb 2 x (upward-in 2 (n - 2) x m .0)))
 
 -- without one of them
-others-without : (n j : ℕ) → suc (suc j) < n → keep (λ g. not (eqb g (suc (suc j)))) (others n) ≡ upward 2 j ++ upward (suc (suc (suc j))) (n - (j + 3))
+others-without : (n j : ℕ) → suc (suc j) < n
+    → keep (λ g. not (eqb g (suc (suc j)))) (others n) ≡ upward 2 j ++ upward (suc (suc (suc j))) (n - (j + 3))
 unfolding upward keep
 others-without n j h =
     let z : n - 2 ≡ j + suc (n - (j + 3)) = omega arith in
@@ -87,7 +92,8 @@ others-without n j h =
       keep-append other (upward 2 j) (upward (suc (suc j)) (suc (n - (j + 3)))),
       eq-eqb (suc (suc j)) (suc (suc j)) refl,
       keep-all other (upward 2 j) (λ x m. apart x (omega (arith, upward-in 2 j x m .1))),
-      keep-all other (upward (suc (suc (suc j))) (n - (j + 3))) (λ x m. apart x (omega (arith, upward-in (suc (suc (suc j))) (n - (j + 3)) x m .0))),
+      keep-all other (upward (suc (suc (suc j))) (n - (j + 3)))
+          (λ x m. apart x (omega (arith, upward-in (suc (suc (suc j))) (n - (j + 3)) x m .0))),
     )
   where
     other : ℕ → Bool
@@ -96,7 +102,8 @@ others-without n j h =
     apart : (x : ℕ) → x ≢ suc (suc j) → other x ≡ true
     apart x e = not-of (eqb x (suc (suc j))) (ne-eqb x (suc (suc j)) e)
 
-sources-from : (n j : ℕ) → suc (suc j) < n → sources n (suc (suc j)) ≡ 1 ∷ 0 ∷ ((upward 2 j ++ upward (suc (suc (suc j))) (n - (j + 3))) ++ (suc (suc j) ∷ []))
+sources-from : (n j : ℕ) → suc (suc j) < n
+    → sources n (suc (suc j)) ≡ 1 ∷ 0 ∷ ((upward 2 j ++ upward (suc (suc (suc j))) (n - (j + 3))) ++ (suc (suc j) ∷ []))
 unfolding sources
 sources-from n j h = rw (others-without n j h)
 
@@ -115,7 +122,8 @@ source-at n (suc zero) (suc (suc i)) h hb hr =
 source-at n (suc (suc j)) zero h hb hr = rw (ne-eqb (suc (suc j)) 0 (λ e. omega arith))
 source-at n (suc (suc j)) (suc zero) h hb hr = rw (ne-eqb (suc (suc j)) 0 (λ e. omega arith))
 source-at n (suc (suc j)) (suc (suc i)) h hb hr =
-    rw (sources-from n j hb, le-ltb (suc (suc i)) 2 (omega arith), le-ltb (suc (suc j)) 2 (omega arith)) (go (dec-lt i j) (dec-lt (suc (suc i) + 1) n))
+    rw (sources-from n j hb, le-ltb (suc (suc i)) 2 (omega arith), le-ltb (suc (suc j)) 2 (omega arith))
+    (go (dec-lt i j) (dec-lt (suc (suc i) + 1) n))
   where
     front : List ℕ
     front = upward 2 j
@@ -127,10 +135,12 @@ source-at n (suc (suc j)) (suc (suc i)) h hb hr =
     both = omega (arith, length-append front back, upward-length 2 j, upward-length (suc (suc (suc j))) (n - (j + 3)))
 
     go : (i < j) ⊎ (j ≤ i) → (suc (suc i) + 1 < n) ⊎ (n ≤ suc (suc i) + 1)
-        → cond (ltb (suc (suc i)) (suc (suc j))) (suc (suc i)) (cond (ltb (suc (suc i) + 1) n) (suc (suc i) + 1) (suc (suc j))) ≡ getD ((front ++ back) ++ (suc (suc j) ∷ [])) i 0
+        → cond (ltb (suc (suc i)) (suc (suc j))) (suc (suc i)) (cond (ltb (suc (suc i) + 1) n) (suc (suc i) + 1) (suc (suc j)))
+        ≡ getD ((front ++ back) ++ (suc (suc j) ∷ [])) i 0
     go (inl p) q =
         rw (lt-ltb (suc (suc i)) (suc (suc j)) (omega arith))
-        (sym (List·getD-append (front ++ back) (suc (suc j) ∷ []) 0 i (omega (arith, both)) ∙ List·getD-append front back 0 i (omega (arith, upward-length 2 j)) ∙ upward-at 2 j i p ∙ omega arith))
+        (sym (List·getD-append (front ++ back) (suc (suc j) ∷ []) 0 i (omega (arith, both))
+        ∙ List·getD-append front back 0 i (omega (arith, upward-length 2 j)) ∙ upward-at 2 j i p ∙ omega arith))
     go (inr p) (inl q) =
         let z : length front + (i - j) ≡ i = omega (arith, upward-length 2 j) in
         rw (le-ltb (suc (suc i)) (suc (suc j)) (omega arith), lt-ltb (suc (suc i) + 1) n q)

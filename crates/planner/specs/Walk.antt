@@ -1,4 +1,5 @@
 -- Walks round the ring, step by step: along the arc of a path, and out from a bus while breakers are closed.
+-- Buses and breakers are indices from 0; an owner is a generator's number, from 1, or 0.
 use mathlib.Core.Path.{_≡_, refl, sym, _∙_}
 use mathlib.Core.Bool.{Bool, true, false, not, _&&_, _||_, cond}
 use mathlib.Core.Logic.{_⊎_, inl, inr, _≢_}
@@ -12,8 +13,9 @@ use Rattle.model.specs.Lists.{anyOf, _∈_}
 use Rattle.model.specs.Plant.{stuckOpen, stuckClosed, next, up, arc, Leads, stay, rise, fall, connected}
 use Rattle.model.specs.Laws.Tests.{not-of, and-left, and-right, and-intro, or-cases, or-left, or-right, iff, dec, dec-eq}
 use Rattle.model.specs.Laws.Lists.{any-at, any-in}
-use Rattle.theory.specs.Geometry.{Next, more, last, next-cases, next-lt, up-refl, up-zero, up-lt, up-next, up-next-right, up-inj, arc-at, arc-in}
-use Rattle.theory.specs.Connected.{Arc, leads-arcs, connected-leads, leads-connected}
+use Rattle.theory.specs.Proofs.Geometry.{Next, more, last, next-cases, next-lt, up-refl, up-zero}
+use Rattle.theory.specs.Proofs.Geometry.{up-lt, up-next, up-next-right, up-inj, arc-at, arc-in}
+use Rattle.theory.specs.Theorems.Connected.{Arc, leads-arcs, connected-leads, leads-connected}
 use Rattle.planner.specs.Arrays.{setAll}
 
 -- ---- along the arc of a path
@@ -72,7 +74,8 @@ module _ (n : ℕ) (B O : ℕ → ℕ) (g e : ℕ) (he : e < n) where
   clear-of zero a ha z c = c .buses a (ha, omega (arith, up-refl n a ha))
   clear-of (suc m) a ha z c =
       and-intro (not (stuckOpen (B a))) _ (not-of (stuckOpen (B a)) first-line)
-      (and-intro (free (O a) g) _ first-bus (clear-of m (next n a) (next-lt n a ha) (nearer m a ha z) (record { line = λ i hi l. line i hi l (dec-eq a i); buses = λ x b. buses x b (dec-eq a x) })))
+      (and-intro (free (O a) g) _ first-bus (clear-of m (next n a) (next-lt n a ha) (nearer m a ha z)
+      (record { line = λ i hi l. line i hi l (dec-eq a i); buses = λ x b. buses x b (dec-eq a x) })))
     where
       first-line : stuckOpen (B a) ≡ false
       first-line = c .line a ha (omega (arith, up-refl n a ha))
@@ -124,8 +127,18 @@ next-previous n k hk = go (dec-eq k 0)
     at j hj (last l e) f g = e ∙ sym (f l)
 
     go : (k ≡ 0) ⊎ (k ≢ 0) → (previous n k < n) × (next n (previous n k) ≡ k)
-    go (inl e) = rw (eq-eqb k 0 e) (omega arith, at (n - 1) (omega arith) (next-cases n (n - 1) (omega arith)) (λ l. e) (λ l. absurd (omega arith)))
-    go (inr e) = rw (ne-eqb k 0 e) (omega arith, at (k - 1) (omega arith) (next-cases n (k - 1) (omega arith)) (λ l. absurd (omega arith)) (λ l. omega arith))
+    go (inl e) =
+        rw (eq-eqb k 0 e) (
+          omega arith,
+          at (n - 1) (omega arith) (next-cases n (n - 1) (omega arith)) (λ l. e)
+              (λ l. absurd (omega arith)),
+        )
+    go (inr e) =
+        rw (ne-eqb k 0 e) (
+          omega arith,
+          at (k - 1) (omega arith) (next-cases n (k - 1) (omega arith)) (λ l. absurd (omega arith))
+              (λ l. omega arith),
+        )
 
 -- one step less leads from bus a to the bus before bus k
 pub up-previous : (n a k : ℕ) → a < n → k < n → a ≢ k → up n a k ≡ suc (up n a (previous n k))
@@ -233,9 +246,11 @@ module _ (n : ℕ) (C : ℕ → Bool) where
   pub reach-at : (r : Bool) (m k v : ℕ) → k < n → v ∈ reach n C r k m → (v < n) × Leads n C k v
   unfolding reach
   reach-at r zero k v hk i = absurd (List·Memᴰ·not-nil i)
-  reach-at r (suc m) k v hk i = go (reach-at r m (busBeside n r k) v (bus-lt n r k hk)) (dec (C (breakerBeside n r k))) (List·Memᴰ·cases-cons i)
+  reach-at r (suc m) k v hk i =
+      go (reach-at r m (busBeside n r k) v (bus-lt n r k hk)) (dec (C (breakerBeside n r k))) (List·Memᴰ·cases-cons i)
     where
-      go : (v ∈ reach n C r (busBeside n r k) m → (v < n) × Leads n C (busBeside n r k) v) → (C (breakerBeside n r k) ≡ true) ⊎ (C (breakerBeside n r k) ≡ false)
+      go : (v ∈ reach n C r (busBeside n r k) m → (v < n) × Leads n C (busBeside n r k) v)
+          → (C (breakerBeside n r k) ≡ true) ⊎ (C (breakerBeside n r k) ≡ false)
           → (v ≡ k) ⊎ (v ∈ cond (C (breakerBeside n r k)) (reach n C r (busBeside n r k) m) []) → (v < n) × Leads n C k v
       go f c (inl e) = rw e (hk, stay)
       go f (inl c) (inr j) = let t = f (rw c at j) in (t .0, beside-leads r k v hk c (t .1))
@@ -255,7 +270,8 @@ module _ (n : ℕ) (C : ℕ → Bool) where
       on : (i : ℕ) → i < n → up n (next n k) i < up n (next n k) v → (k ≡ i) ⊎ (k ≢ i) → C i ≡ true
       on i hi l (inl e) = rw (← e) here
       on i hi l (inr e) = f i hi (omega (arith, far, up-next n k i hk hi e))
-  step false k v hk hv ne f = (f (previous n k) (next-previous n k hk .0) (omega (arith, far)), (λ i hi l. f i hi (omega (arith, far))), far)
+  step false k v hk hv ne f =
+      (f (previous n k) (next-previous n k hk .0) (omega (arith, far)), (λ i hi l. f i hi (omega (arith, far))), far)
     where
       far : up n v k ≡ suc (up n v (previous n k))
       far = up-previous n v k hv hk (λ q. ne (sym q))
@@ -271,7 +287,8 @@ module _ (n : ℕ) (C : ℕ → Bool) where
       go i (inr e) = let t = step r k v hk hv e f in rw (t .0) (List·Memᴰ·tail (i (t .1) (omega (arith, t .2))))
 
   -- both sides together reach the buses that are connected
-  pub reach-connected : (b v : ℕ) → b < n → v < n → anyOf (eqb v) (reach n C true b n) || anyOf (eqb v) (reach n C false b n) ≡ connected n C b v
+  pub reach-connected : (b v : ℕ) → b < n → v < n
+      → anyOf (eqb v) (reach n C true b n) || anyOf (eqb v) (reach n C false b n) ≡ connected n C b v
   reach-connected b v hb hv = iff (reached true || reached false) (connected n C b v) to from
     where
       reached : Bool → Bool
@@ -310,7 +327,8 @@ module _ {A : Type 0} (x : A) (n k m d : ℕ) (l : List A) where
   outward-end r h = let z : m - d ≡ 0 = omega arith in rw z
 
   module _ (C : ℕ → Bool) (r : Bool) where
-    pub reach-step : d < m → C (breakerBeside n r k) ≡ true → setAll x (reach n C r k (m - d)) l ≡ setAll x (reach n C r (busBeside n r k) (m - (d + 1))) (set l k x)
+    pub reach-step : d < m → C (breakerBeside n r k) ≡ true
+        → setAll x (reach n C r k (m - d)) l ≡ setAll x (reach n C r (busBeside n r k) (m - (d + 1))) (set l k x)
     unfolding reach setAll
     reach-step h e = let z : m - d ≡ suc (m - (d + 1)) = omega arith in rw (z, e)
 

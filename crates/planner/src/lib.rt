@@ -1,6 +1,5 @@
 // The plan for a ring's health: each bus's choice and each part's command (document 01, "Choosing").
-// Buses, generators and bus breakers are indices from 0 in all files of this crate; an owner and a choice have a generator's
-// number, from 1.
+// Buses are indices from 0 here; a choice has a generator's number, from 1.
 ghost use mathlib.Core.Path.{_≡_};
 ghost use Prim.Native.Nat.{_≤_};
 ghost use Rattle.model.specs.Values.{choiceValues};

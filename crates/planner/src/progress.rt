@@ -1,10 +1,11 @@
 // What is kept from bus to bus while they are served: "Buses are served in number order."
+// Buses and generators are indices from 0; an owner and a choice have a generator's number, from 1.
 ghost use mathlib.Core.Path.{_≡_};
 ghost use mathlib.Core.Option.{some};
 ghost use Prim.Native.Nat.{_+_, _≤_, _<_};
 ghost use Rattle.model.specs.Choosing.{choiceOf};
 ghost use Rattle.model.specs.Reports.{places, healthOf};
-ghost use Rattle.theory.specs.Paths.{pathTo};
+ghost use Rattle.theory.specs.Proofs.Paths.{pathTo};
 ghost use Rattle.planner.specs.Owner.{mayFeed};
 ghost use Rattle.planner.specs.Progress.{served, taken, darkened};
 use super::search;

@@ -1,9 +1,10 @@
 // The search for a bus's path: "The search over generators and their two ways ends at the first permitted way."
+// Buses, generators and bus breakers are indices from 0; an owner is a generator's number, from 1, or 0 where there is none.
 ghost use mathlib.Core.Path.{_≡_};
 ghost use Prim.Native.Nat.{_≤_, _<_};
 ghost use Rattle.model.specs.Lists.{first};
 ghost use Rattle.model.specs.Priority.{highRises, paths};
-ghost use Rattle.theory.specs.Paths.{pathTo};
+ghost use Rattle.theory.specs.Proofs.Paths.{pathTo};
 ghost use Rattle.planner.specs.Search.{passesBy, triedBy, candidateBy, pathFound, pathCount, pathRises, spanOf};
 use super::sources;
 use super::walk;

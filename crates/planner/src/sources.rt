@@ -1,4 +1,5 @@
 // The sources of a bus: which generators may feed, and the order in which a bus tries them (document 01, "Ways and their ranks").
+// Buses and generators are indices from 0, places of a priority too.
 ghost use mathlib.Core.Path.{_≡_};
 ghost use mathlib.Core.Bool.{_&&_, not};
 ghost use Prim.Native.Nat.{suc, _≤_, _<_};

@@ -1,4 +1,5 @@
 // Walks round the ring, step by step: along the bus breakers of a path, and out from a bus while breakers count as closed.
+// Buses and bus breakers are indices from 0; an owner is a generator's number, from 1, or 0 where there is none.
 ghost use mathlib.Core.Path.{_≡_};
 ghost use mathlib.Core.Bool.{true, _||_};
 ghost use Prim.Native.Nat.{_≤_, _<_};

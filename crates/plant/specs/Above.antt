@@ -16,12 +16,13 @@ use Rattle.model.specs.Laws.Tests.{and-right}
 use Rattle.model.specs.Laws.Lists.{any-ext}
 use Rattle.model.specs.Laws.Parts.{parts-at, places-ext}
 use Rattle.model.specs.Laws.Tests.{cond-ext}
-use Rattle.theory.specs.Locality.{Agree, feed-ext}
+use Rattle.theory.specs.Theorems.Locality.{Agree, feed-ext}
 
 -- the refusal, and the whole answer
 pub refusal-ext : (n : ℕ) (H K : PartHealth) → Agree n H K → feedsRefusal n H ≡ feedsRefusal n K
 unfolding feedsRefusal healthOutside
-refusal-ext n H K same = rw (any-ext (λ p. not (healthOfKind p (H p))) (λ p. not (healthOfKind p (K p))) (parts n) (λ p m. rw (same p (parts-at n p m))))
+refusal-ext n H K same = rw (any-ext (λ p. not (healthOfKind p (H p))) (λ p. not (healthOfKind p (K p))) (parts n)
+    (λ p m. rw (same p (parts-at n p m))))
 
 pub answer-ext : (n : ℕ) (h k : Health) (c d : Commands) → Agree n (healthOf h) (healthOf k) → Agree n (commandsOf c) (commandsOf d)
     → feedsAnswer n h c ≡ feedsAnswer n k d
@@ -31,5 +32,7 @@ answer-ext n h k c d same both =
     (ap (λ bs. record { outcome = outcomeOf (feedsRefusal n (healthOf k)); buses = bs })
     (places-ext _ _ (λ b l. ap (λ f. record { feed = f }) (at b (eqb (feedsRefusal n (healthOf k)) 0)))))
   where
-    at : (b : ℕ) (t : Bool) → cond (t && ltb b n) (busFeed n (healthOf h) (commandsOf c) b) Dark ≡ cond (t && ltb b n) (busFeed n (healthOf k) (commandsOf d) b) Dark
-    at b t = cond-ext (t && ltb b n) Dark (λ e. feed-ext n (healthOf h) (healthOf k) (commandsOf c) (commandsOf d) same both b (ltb-true b n (and-right t (ltb b n) e)))
+    at : (b : ℕ) (t : Bool) → cond (t && ltb b n) (busFeed n (healthOf h) (commandsOf c) b) Dark
+        ≡ cond (t && ltb b n) (busFeed n (healthOf k) (commandsOf d) b) Dark
+    at b t = cond-ext (t && ltb b n) Dark
+        (λ e. feed-ext n (healthOf h) (healthOf k) (commandsOf c) (commandsOf d) same both b (ltb-true b n (and-right t (ltb b n) e)))

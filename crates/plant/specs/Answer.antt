@@ -11,11 +11,11 @@ use Rattle.model.specs.declared.FeedsAnswer.{FeedsAnswer}
 use Rattle.model.specs.declared.Feed.the-variants.{Dark}
 use Rattle.model.specs.declared.Outcome.the-variants.{Served, Refused}
 use Rattle.model.specs.Lists.{below}
-use Rattle.model.specs.Values.{outcomeNumber, outcomeOf, feedSources}
+use Rattle.model.specs.Values.{outcomeNumber, outcomeOf, feedSources, feedValues}
 use Rattle.model.specs.Plant.{largest, parts, feeders, feedBy, busFeed}
 use Rattle.model.specs.Reports.{places, healthOf, commandsOf}
 use Rattle.model.specs.Refusals.{firstMet, sizeOutside, healthOutside, feedsRefusal}
-use Rattle.model.specs.Answers.{feedsAnswer}
+use Rattle.model.specs.Answers.{feedsAnswer, busValues}
 use Rattle.model.specs.Laws.Lists.{map-ext}
 use Rattle.model.specs.Laws.Refusals.{outcome-number}
 use Rattle.plant.specs.Buses.{darkBuses, feedsBelow}
@@ -24,12 +24,8 @@ use Rattle.plant.specs.Buses.{darkBuses, feedsBelow}
 abbrev pub refusedAnswer : ℕ → FeedsAnswer
 refusedAnswer k = record { outcome = Refused k; buses = darkBuses }
 
--- "a clash that names the two lowest generators feeding it": the numbers of the generators named for bus b
-unfoldable pub sourcesNamed : ℕ → Health → Commands → ℕ → List ℕ
-sourcesNamed n h c b = cond (eqb (feedsRefusal n (healthOf h)) 0 && ltb b n) (take 2 (map suc (feeders n (healthOf h) (commandsOf c) b))) []
-
--- the numbers that an answer names
-feed-sources : (t : Bool) (gs : List ℕ) → feedSources (cond t (feedBy gs) Dark) ≡ cond t (take 2 (map suc gs)) []
+-- the generators that an answer names
+feed-sources : (t : Bool) (gs : List ℕ) → feedSources (cond t (feedBy gs) Dark) ≡ cond t (map suc (take 2 gs)) []
 unfolding feedBy
 feed-sources true [] = refl
 feed-sources true (g ∷ []) = refl
@@ -37,19 +33,29 @@ feed-sources true (g ∷ k ∷ gs) = refl
 feed-sources false gs = refl
 
 module _ (n : ℕ) (h : Health) (c : Commands) where
-  -- the numbers that each bus's answer names
-  sources-named : map (λ bus. feedSources (bus .feed)) (feedsAnswer n h c .buses) ≡ places (sourcesNamed n h c)
-  unfolding feedsAnswer busFeed places sourcesNamed
-  sources-named =
+  -- the generators that each bus's answer names
+  buses-values : feedValues (feedsAnswer n h c .buses) ≡ places (busValues n h c)
+  unfolding feedsAnswer feedValues busFeed places busValues
+  buses-values =
       map-map (λ bus. feedSources (bus .feed)) _ (below largest)
-      ∙ map-ext _ _ (below largest) (λ b m. feed-sources (eqb (feedsRefusal n (healthOf h)) 0 && ltb b n) (feeders n (healthOf h) (commandsOf c) b))
+      ∙ map-ext _ _ (below largest) (λ b m. feed-sources (eqb (feedsRefusal n (healthOf h)) 0 && ltb b n)
+      (feeders n (healthOf h) (commandsOf c) b))
 
-  -- the numbers and values of the whole answer
-  pub answered : (r : FeedsAnswer) → r ≡ feedsAnswer n h c
-      → (r ≡ feedsAnswer n h c) × ((outcomeNumber (r .outcome) ≡ feedsRefusal n (healthOf h)) × (map (λ bus. feedSources (bus .feed)) (r .buses) ≡ places (sourcesNamed n h c)))
+  -- the answer, its number and its values
+  abbrev pub Answered : FeedsAnswer → Type 0
+  Answered r =
+      (r ≡ feedsAnswer n h c) × ((outcomeNumber (r .outcome) ≡ feedsRefusal n (healthOf h))
+      × (feedValues (r .buses) ≡ places (busValues n h c)))
+
+  pub answered : (r : FeedsAnswer) → r ≡ feedsAnswer n h c → Answered r
   unfolding feedsAnswer
-  answered r e =
-      (e, (ap (λ a. outcomeNumber (a .outcome)) e ∙ outcome-number (feedsRefusal n (healthOf h)), ap (λ a. map (λ bus. feedSources (bus .feed)) (a .buses)) e ∙ sources-named))
+  answered r e = (
+    e,
+    (
+      ap (λ a. outcomeNumber (a .outcome)) e ∙ outcome-number (feedsRefusal n (healthOf h)),
+      ap (λ a. feedValues (a .buses)) e ∙ buses-values,
+    ),
+  )
 
   -- refused by 2, by 9, or served
   pub size-refused : sizeOutside n ≡ true → refusedAnswer 2 ≡ feedsAnswer n h c

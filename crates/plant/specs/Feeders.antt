@@ -36,7 +36,8 @@ module _ (f : ℕ → Bool) where
   unfolding feedAmong keep below
   feed-more g = rw add-one (ap feedBy (keep-append f (below g) (g ∷ [])) ∙ go (f g))
     where
-      go : (t : Bool) → feedBy (keep f (below g) ++ cond t (g ∷ []) []) ≡ cond t (withFeeder (feedBy (keep f (below g))) (suc g)) (feedBy (keep f (below g)))
+      go : (t : Bool) → feedBy (keep f (below g) ++ cond t (g ∷ []) [])
+          ≡ cond t (withFeeder (feedBy (keep f (below g))) (suc g)) (feedBy (keep f (below g)))
       go true = feed-snoc (keep f (below g)) g
       go false = rw append-nil
 

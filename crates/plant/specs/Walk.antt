@@ -5,7 +5,7 @@ use mathlib.Core.Logic.{_≢_}
 use Prim.Native.Nat.{ℕ, _<_}
 use Rattle.model.specs.Lists.{allOf}
 use Rattle.model.specs.Plant.{next, up, arc}
-use Rattle.theory.specs.Geometry.{up-refl, up-next}
+use Rattle.theory.specs.Proofs.Geometry.{up-refl, up-next}
 
 -- from bus a to bus b
 module _ (C : ℕ → Bool) (n a b : ℕ) (ha : a < n) where

@@ -1,18 +1,17 @@
 // The plant reckoning of document 01: who feeds each bus, by the health and the commands of the parts.
 // Buses, generators and breakers are indices from 0 here, the paper's numbers less 1; an answer names numbers.
 ghost use mathlib.Core.Path.{_≡_};
-ghost use mathlib.Core.Bool.{_&&_, _||_};
-ghost use mathlib.Core.List.{map};
+ghost use mathlib.Core.Bool.{_&&_};
 ghost use Prim.Native.Nat.{_≤_, _<_};
 ghost use Rattle.model.specs.Lists.{allOf};
-ghost use Rattle.model.specs.Values.{outcomeNumber, feedSources};
-ghost use Rattle.model.specs.Plant.{fit, stuckOff, stuckOpen, stuckClosed, closed, up, arc, connected as connectedBuses, busBreakerClosed, feeds as feedsOf, busFeed, parts};
+ghost use Rattle.model.specs.Values.{outcomeNumber, feedValues};
+ghost use Rattle.model.specs.Plant.{fit, closed, up, arc, connected as connectedBuses, busBreakerClosed, feeds as feedsOf, busFeed};
 ghost use Rattle.model.specs.Reports.{places, healthOf, commandsOf};
-ghost use Rattle.model.specs.Refusals.{sizeOutside, healthOutside, feedsRefusal};
-ghost use Rattle.model.specs.Answers.{feedsAnswer};
+ghost use Rattle.model.specs.Refusals.{feedsRefusal};
+ghost use Rattle.model.specs.Answers.{feedsAnswer, busValues};
 ghost use Rattle.plant.specs.Feeders.{withFeeder};
 ghost use Rattle.plant.specs.Buses.{darkBuses, feedsBelow};
-ghost use Rattle.plant.specs.Answer.{refusedAnswer, sourcesNamed};
+ghost use Rattle.plant.specs.Answer.{refusedAnswer};
 use model::BusFeed;
 use model::Commands;
 use model::Feed;
@@ -39,7 +38,9 @@ fn is_closed(health: u8, command: bool) -> bool
 
 // Whether every bus breaker met from bus a to bus b through rising bus numbers is closed.
 fn arc_closed(n: usize, health: Health, commands: Commands, a: usize, b: usize) -> bool
-    requires { ⌜ (a < n) × (b < n) × (n ≤ 20) ⌝ }
+    requires from { ⌜ a < n ⌝ }
+    requires to { ⌜ b < n ⌝ }
+    requires size { ⌜ n ≤ 20 ⌝ }
     ensures { λ r. ⌜ r ≡ allOf (busBreakerClosed (healthOf health) (commandsOf commands)) (arc n a (up n a b)) ⌝ }
 {
     let mut i = a;
@@ -54,7 +55,9 @@ fn arc_closed(n: usize, health: Health, commands: Commands, a: usize, b: usize) 
 
 // "Two buses are joined when closed bus breakers lead from one to the other; a bus is joined to itself."
 fn connected(n: usize, health: Health, commands: Commands, a: usize, b: usize) -> bool
-    requires { ⌜ (a < n) × (b < n) × (n ≤ 20) ⌝ }
+    requires from { ⌜ a < n ⌝ }
+    requires to { ⌜ b < n ⌝ }
+    requires size { ⌜ n ≤ 20 ⌝ }
     ensures { λ r. ⌜ r ≡ connectedBuses n (busBreakerClosed (healthOf health) (commandsOf commands)) a b ⌝ }
 {
     arc_closed(n, health, commands, a, b) || arc_closed(n, health, commands, b, a)
@@ -62,7 +65,9 @@ fn connected(n: usize, health: Health, commands: Commands, a: usize, b: usize) -
 
 // "it feeds every bus joined to its own while its generator breaker is closed": whether generator g feeds bus b.
 fn feeds_bus(n: usize, health: Health, commands: Commands, b: usize, g: usize) -> bool
-    requires { ⌜ (b < n) × (g < n) × (n ≤ 20) ⌝ }
+    requires bus { ⌜ b < n ⌝ }
+    requires generator { ⌜ g < n ⌝ }
+    requires size { ⌜ n ≤ 20 ⌝ }
     ensures { λ r. ⌜ r ≡ feedsOf n (healthOf health) (commandsOf commands) b g ⌝ }
 {
     is_running(health.generators[g], commands.generators[g])
@@ -84,7 +89,8 @@ fn with_feeder(feed: Feed, generator: u8) -> Feed
 
 // Who feeds bus b.
 fn bus_feed(n: usize, health: Health, commands: Commands, b: usize) -> Feed
-    requires { ⌜ (b < n) × (n ≤ 20) ⌝ }
+    requires bus { ⌜ b < n ⌝ }
+    requires size { ⌜ n ≤ 20 ⌝ }
     ensures { λ r. ⌜ r ≡ busFeed n (healthOf health) (commandsOf commands) b ⌝ }
 {
     let mut feed = Feed::Dark;
@@ -129,9 +135,9 @@ fn refused(number: u8) -> FeedsAnswer
 
 // "The plant reckoning takes n, the health of all parts and any set of orders."; it checks "2, then 9".
 pub fn feeds(n: u8, health: Health, commands: Commands) -> FeedsAnswer
-    ensures { λ r. ⌜ r ≡ feedsAnswer n health commands ⌝ }
-    ensures { λ r. ⌜ outcomeNumber (r .outcome) ≡ feedsRefusal n (healthOf health) ⌝ }
-    ensures { λ r. ⌜ map (λ bus. feedSources (bus .feed)) (r .buses) ≡ places (sourcesNamed n health commands) ⌝ }
+    ensures answer { λ r. ⌜ r ≡ feedsAnswer n health commands ⌝ }
+    ensures number { λ r. ⌜ outcomeNumber (r .outcome) ≡ feedsRefusal n (healthOf health) ⌝ }
+    ensures values { λ r. ⌜ feedValues (r .buses) ≡ places (busValues n health commands) ⌝ }
 {
     if components::size_outside(n) {
         return refused(2);

@@ -1,6 +1,5 @@
--- The answers' numbers and values, and the answers that a call makes of an outcome.
+-- The answers to a code and to a byte, with their values.
 use mathlib.Core.Path.{_≡_, refl, ap}
-use mathlib.Core.Logic.{_⊎_, inl, inr}
 use mathlib.Core.List.{[], _∷_}
 use mathlib.Core.Option.{Option, none, some}
 use Prim.Native.Nat.{ℕ, _+_, _≤_, _<_}
@@ -10,29 +9,32 @@ use Rattle.model.specs.declared.PartAnswer.{PartAnswer}
 use Rattle.model.specs.declared.PartAnswer.the-variants as part
 use Rattle.model.specs.declared.WordAnswer.{WordAnswer}
 use Rattle.model.specs.declared.WordAnswer.the-variants as word
-use Rattle.model.specs.Values.{number, firstCode, wordNumber, partValues, wordValues}
+use Rattle.model.specs.Lists.{isNone}
+use Rattle.model.specs.Values.{number, firstCode, wordNumber, numbered, partValues, wordValues}
 use Rattle.model.specs.Plant.{largest, InRing}
 use Rattle.model.specs.Reports.{partNamed, wordNamed}
-use Rattle.model.specs.Answers.{partAnswer, wordAnswer}
+use Rattle.model.specs.Refusals.{firstMet, codeRefusal, byteRefusal}
+use Rattle.model.specs.Answers.{partAnswer, codeValues, wordAnswer, byteValues}
 use Rattle.model.specs.Laws.Reports.{code-named}
 use Rattle.reports.specs.Codes.{ofRing, in-range, outside-ranges, number-names, word-named, no-word}
 
 -- ---- parts
 
--- r is the answer to the code c: the part that it names, which has this code, or refusal 5
+-- r is the answer to the code c, with its values
 abbrev pub PartAnswered : ℕ → ℕ → PartAnswer → Type 0
-PartAnswered n c r = (r ≡ partAnswer (partNamed n c)) × ((partValues r ≡ (0, c ∷ [])) ⊎ (partValues r ≡ (5, [])))
+PartAnswered n c r = (r ≡ partAnswer (partNamed n c)) × (partValues r ≡ codeValues n c)
 
 part-gives : (n c : ℕ) (r : PartAnswer) → r ≡ partAnswer (partNamed n c) → PartAnswered n c r
-unfolding partAnswer
+unfolding partAnswer codeValues codeRefusal firstMet numbered
 part-gives n c r e = (e, rw e (go (partNamed n c) refl))
   where
-    go : (o : Option Part) → partNamed n c ≡ o → (partValues (partAnswer o) ≡ (0, c ∷ [])) ⊎ (partValues (partAnswer o) ≡ (5, []))
-    go none q = inr refl
-    go (some p) q = inl (ap (λ k. (0, k ∷ [])) (code-named n c p q .1))
+    go : (o : Option Part) → partNamed n c ≡ o → partValues (partAnswer o) ≡ numbered (firstMet ((5, isNone o) ∷ [])) (c ∷ [])
+    go none q = refl
+    go (some p) q = ap (λ k. (0, k ∷ [])) (code-named n c p q .1)
 
 -- a code of a range
-pub part-in-range : (n c : ℕ) (p : Part) (r : PartAnswer) → r ≡ partAnswer (ofRing n p) → InRing largest p → firstCode p + number p ≡ c + 1 → PartAnswered n c r
+pub part-in-range : (n c : ℕ) (p : Part) (r : PartAnswer) → r ≡ partAnswer (ofRing n p) → InRing largest p
+    → firstCode p + number p ≡ c + 1 → PartAnswered n c r
 part-in-range n c p r e h q = part-gives n c r (rw (in-range n c p h q) e)
 
 -- a code of no range
@@ -42,17 +44,17 @@ part-outside n c a b d = part-gives n c (part.Refused 5) (rw (outside-ranges n c
 
 -- ---- words
 
--- r is the answer to the byte v: the word that it names, which has this number, or refusal 6
+-- r is the answer to the byte v, with its values
 abbrev pub WordAnswered : ℕ → WordAnswer → Type 0
-WordAnswered v r = (r ≡ wordAnswer (wordNamed v)) × ((wordValues r ≡ (0, v ∷ [])) ⊎ (wordValues r ≡ (6, [])))
+WordAnswered v r = (r ≡ wordAnswer (wordNamed v)) × (wordValues r ≡ byteValues v)
 
 word-gives : (v : ℕ) (r : WordAnswer) → r ≡ wordAnswer (wordNamed v) → WordAnswered v r
-unfolding wordAnswer
+unfolding wordAnswer byteValues byteRefusal firstMet numbered
 word-gives v r e = (e, rw e (go (wordNamed v) refl))
   where
-    go : (o : Option Word) → wordNamed v ≡ o → (wordValues (wordAnswer o) ≡ (0, v ∷ [])) ⊎ (wordValues (wordAnswer o) ≡ (6, []))
-    go none q = inr refl
-    go (some w) q = inl (ap (λ k. (0, k ∷ [])) (word-named v w q))
+    go : (o : Option Word) → wordNamed v ≡ o → wordValues (wordAnswer o) ≡ numbered (firstMet ((6, isNone o) ∷ [])) (v ∷ [])
+    go none q = refl
+    go (some w) q = ap (λ k. (0, k ∷ [])) (word-named v w q)
 
 -- a word's number
 pub word-of-number : (v : ℕ) (w : Word) → v ≡ wordNumber w → WordAnswered v (word.Named w)

@@ -1,6 +1,6 @@
 -- Part codes and words: what each code and each byte names.
 use mathlib.Core.Path.{_≡_, refl, _∙_, ap}
-use mathlib.Core.Bool.{cond}
+use mathlib.Core.Bool.{Bool, true, false, cond}
 use mathlib.Core.Logic.{_⊎_, inl, inr}
 use mathlib.Core.List.{[], _∷_}
 use mathlib.Core.Option.{Option, none, some}
@@ -21,6 +21,7 @@ use Rattle.model.specs.Laws.Tests.{dec-lt}
 use Rattle.model.specs.Laws.Lists.{first-at, first-none}
 use Rattle.model.specs.Laws.Parts.{parts-at, code-only}
 use Rattle.model.specs.Laws.Reports.{named-code}
+use Rattle.components.specs.Tests.{is-true, is-false}
 
 -- ---- parts
 
@@ -41,16 +42,30 @@ names-none n c h =
 unfoldable pub ofRing : ℕ → Part → Option Part
 ofRing n p = cond (notOfRing n p) none (some p)
 
+-- 5 of a part's number, by cases: however the code words the test
+pub ring-test : (n : ℕ) (p : Part) (r : Bool) → (number p < 1 → r ≡ false → ⊥) → (n < number p → r ≡ false → ⊥)
+    → (largest < number p → r ≡ false → ⊥)
+    → (0 < number p → number p ≤ n → number p ≤ largest → r ≡ true → ⊥) → r ≡ notOfRing n p
+unfolding notOfRing
+ring-test n p r low above beyond within = go (dec-lt (number p) 1) (dec-lt n (number p)) (dec-lt largest (number p))
+  where
+    go : (number p < 1) ⊎ (1 ≤ number p) → (n < number p) ⊎ (number p ≤ n) → (largest < number p) ⊎ (number p ≤ largest) → r ≡ notOfRing n p
+    go (inl l) m k = rw (lt-ltb (number p) 1) (is-true r (low l))
+    go (inr l) (inl m) k = rw (le-ltb (number p) 1, lt-ltb (min n largest) (number p) (omega arith)) (is-true r (above m))
+    go (inr l) (inr m) (inl k) = rw (le-ltb (number p) 1, lt-ltb (min n largest) (number p) (omega arith)) (is-true r (beyond k))
+    go (inr l) (inr m) (inr k) = rw (le-ltb (number p) 1, le-ltb (min n largest) (number p) (omega arith))
+        (is-false r (within (omega arith) m k))
+
 -- the code of a part of the largest ring names it, if a ring of n has it
 code-of-ring : (n : ℕ) (p : Part) → InRing largest p → partNamed n (partCode p) ≡ ofRing n p
 unfolding ofRing notOfRing
-code-of-ring n p h = go (dec-lt n (number p))
+code-of-ring n p h = go (dec-lt (min n largest) (number p))
   where
-    go : (n < number p) ⊎ (number p ≤ n) → partNamed n (partCode p) ≡ ofRing n p
+    go : (min n largest < number p) ⊎ (number p ≤ min n largest) → partNamed n (partCode p) ≡ ofRing n p
     go (inl l) =
-        rw (lt-ltb n (number p), le-ltb (number p) 1 (h .0))
+        rw (lt-ltb (min n largest) (number p), le-ltb (number p) 1 (h .0))
         (names-none n (partCode p) (λ q i e. omega (arith, ap number (code-only largest q p (omega arith) (omega arith) h e))))
-    go (inr l) = rw (le-ltb n (number p), le-ltb (number p) 1 (h .0)) (code-names n p (omega arith))
+    go (inr l) = rw (le-ltb (min n largest) (number p), le-ltb (number p) 1 (h .0)) (code-names n p (h .0, l))
 
 pub index-less : (k : ℕ) → index k ≡ k - 1
 index-less zero = refl
@@ -76,6 +91,23 @@ outside-ranges n c a b d = names-none n c go
     go (GeneratorBreaker k) h e = omega (arith, index-less k, b (omega (arith, index-less k)))
     go (BusBreaker k) h e = omega (arith, index-less k, d (omega (arith, index-less k)))
 
+-- codes of two kinds are 32 apart: a part of so many has its own, and it names the part, if the ring has it
+pub code-reads : (n : ℕ) (p : Part) → InRing 32 p → partNamed n (partCode p) ≡ ofRing n p
+unfolding partCode ofRing notOfRing
+code-reads n p h = go (dec-lt largest (number p))
+  where
+    outside : (q : Part) → InRing 32 q → largest < number q → partNamed n (partCode q) ≡ none
+    outside (Generator k) i l = outside-ranges n _ (omega (arith, index-less k)) (λ j. absurd (omega (arith, index-less k)))
+        (λ j. absurd (omega (arith, index-less k)))
+    outside (GeneratorBreaker k) i l =
+        outside-ranges n _ (omega (arith, index-less k)) (λ j. omega (arith, index-less k)) (λ j. absurd (omega (arith, index-less k)))
+    outside (BusBreaker k) i l = outside-ranges n _ (omega (arith, index-less k)) (λ j. omega (arith, index-less k))
+        (λ j. omega (arith, index-less k))
+
+    go : (largest < number p) ⊎ (number p ≤ largest) → partNamed n (partCode p) ≡ ofRing n p
+    go (inl l) = rw (lt-ltb (min n largest) (number p) (omega arith), le-ltb (number p) 1 (h .0)) (outside p h l)
+    go (inr l) = code-of-ring n p (h .0, l)
+
 -- ---- words
 
 -- a word's number names it
@@ -94,7 +126,8 @@ word-named v w e = eqb-true (wordNumber w) v (first-at (λ u. eqb (wordNumber u)
 -- a number above those of the words names none
 pub no-word : (v : ℕ) → 3 < v → wordNamed v ≡ none
 unfolding wordNamed
-no-word v h = first-none (λ u. eqb (wordNumber u) v) (Fit ∷ StuckOff ∷ StuckOpen ∷ StuckClosed ∷ []) (λ u m. ne-eqb (wordNumber u) v (other u))
+no-word v h = first-none (λ u. eqb (wordNumber u) v) (Fit ∷ StuckOff ∷ StuckOpen ∷ StuckClosed ∷ [])
+    (λ u m. ne-eqb (wordNumber u) v (other u))
   where
     other : (w : Word) → wordNumber w ≡ v → ⊥
     other Fit e = omega arith

@@ -14,22 +14,26 @@ use Rattle.model.specs.declared.Outcome.{Outcome}
 use Rattle.model.specs.declared.Outcome.the-variants as outcome
 use Rattle.model.specs.declared.FileAnswer.{FileAnswer}
 use Rattle.model.specs.declared.FileAnswer.the-variants as file
-use Rattle.model.specs.Values.{outcomeOf, fileValues}
+use Rattle.model.specs.Values.{outcomeOf, numbered, fileValues}
 use Rattle.model.specs.Reports.{fileSize, fileCount, fileCodes, fileWords}
 use Rattle.model.specs.Refusals.{firstMet, orElse, sizeOutside, reportsRefusal, fileRefusal}
-use Rattle.model.specs.Answers.{fileAnswer}
+use Rattle.model.specs.Answers.{fileAnswer, wholeValues}
 use Rattle.model.specs.Text.{servedLines, refusedLines, runLines, joined, printedRun, longestFile, readSize}
-use Rattle.model.specs.Laws.Tests.{dec, dec-lt, by-cond}
-use Rattle.model.specs.Laws.Refusals.{inside, outside, when-served, when-refused}
+use Rattle.model.specs.Laws.Tests.{dec, dec-lt}
+use Rattle.model.specs.Laws.Refusals.{when-served, when-refused}
 
--- r is the file's answer, and has the number of its refusal
+-- r is the file's answer, with its values
 abbrev pub Answered : List ℕ → FileAnswer → Type 0
-Answered f r = (r ≡ fileAnswer f) × (fileValues r .0 ≡ fileRefusal f)
+Answered f r = (r ≡ fileAnswer f) × (fileValues r ≡ wholeValues f)
 
 answered : (f : List ℕ) (r : FileAnswer) → r ≡ fileAnswer f → Answered f r
-unfolding fileAnswer
-answered f r e =
-    (e, rw e (by-cond (λ a. fileValues a .0 ≡ fileRefusal f) (eqb (fileRefusal f) 0) (λ t. sym (eqb-true (fileRefusal f) 0 t)) (λ t. refl)))
+unfolding fileAnswer wholeValues numbered
+answered f r e = (e, rw e (go (fileRefusal f) (dec _)))
+  where
+    go : (k : ℕ) → (eqb k 0 ≡ true) ⊎ (eqb k 0 ≡ false)
+        → fileValues (cond (eqb k 0) (file.Served (fileSize f) (fileCount f)) (file.Refused k)) ≡ numbered k (fileSize f ∷ fileCount f ∷ [])
+    go k (inl q) = let z : k ≡ 0 = eqb-true k 0 q in rw z
+    go k (inr q) = rw q
 
 -- ---- the head
 
@@ -49,7 +53,8 @@ head-inside : (l n m : ℕ) → 3 ≤ l → sizeOutside n ≡ false → headRefu
 unfolding headRefusal firstMet
 head-inside l n m h p = rw (le-ltb l 3, p)
 
-head-then-reports : (f : List ℕ) → fileRefusal f ≡ orElse (headRefusal (length f) (fileSize f) (fileCount f)) (reportsRefusal (fileSize f) (fileCodes f) (fileWords f))
+head-then-reports : (f : List ℕ)
+    → fileRefusal f ≡ orElse (headRefusal (length f) (fileSize f) (fileCount f)) (reportsRefusal (fileSize f) (fileCodes f) (fileWords f))
 unfolding headRefusal fileRefusal
 head-then-reports f = refl
 
@@ -57,37 +62,49 @@ head-then-reports f = refl
 
 -- 3 bytes, and a number of buses that is served
 abbrev pub Sized : List ℕ → Type 0
-Sized f = (3 ≤ length f) × (3 ≤ fileSize f) × (fileSize f ≤ 20)
+Sized f = (3 ≤ length f) × (sizeOutside (fileSize f) ≡ false)
 
 module _ (f : List ℕ) where
   -- a refusal of the head is the file's
+  head-number : (k : ℕ) → headRefusal (length f) (fileSize f) (fileCount f) ≡ k → eqb k 0 ≡ false → fileRefusal f ≡ k
+  head-number k e z = head-then-reports f ∙ rw (e, z)
+
   head-refused : (k : ℕ) → headRefusal (length f) (fileSize f) (fileCount f) ≡ k → eqb k 0 ≡ false → Answered f (file.Refused k)
   unfolding fileAnswer
-  head-refused k e z = let q : fileRefusal f ≡ k = head-then-reports f ∙ rw (e, z) in answered f (file.Refused k) (rw (q, z))
+  head-refused k e z = answered f (file.Refused k) (rw (head-number k e z, z))
 
   pub file-short : length f < 3 → Answered f (file.Refused 1)
   file-short h = head-refused 1 (head-short _ _ _ h) refl
 
-  pub file-size : 3 ≤ length f → (fileSize f < 3) ⊎ (20 < fileSize f) → Answered f (file.Refused 2)
-  file-size l h = head-refused 2 (head-outside _ _ _ l (outside _ h)) refl
+  pub file-size : 3 ≤ length f → sizeOutside (fileSize f) ≡ true → Answered f (file.Refused 2)
+  file-size l h = head-refused 2 (head-outside _ _ _ l h) refl
 
   pub file-count : Sized f → 4096 < fileCount f → Answered f (file.Refused 3)
-  file-count (l, a, b) h = head-refused 3 (head-inside _ _ _ l (inside _ a b) ∙ rw (lt-ltb 4096 (fileCount f))) refl
+  file-count (l, a) h = head-refused 3 (head-inside _ _ _ l a ∙ rw (lt-ltb 4096 (fileCount f))) refl
 
   module _ (sized : Sized f) (few : fileCount f ≤ 4096) where
     pub file-length : length f ≢ 3 + 2 * fileCount f → Answered f (file.Refused 4)
     file-length h =
         head-refused 4
-        (head-inside _ _ _ (sized .0) (inside _ (sized .1) (sized .2)) ∙ rw (le-ltb 4096 (fileCount f), ne-eqb (length f) (3 + 2 * fileCount f)))
+        (head-inside _ _ _ (sized .0) (sized .1) ∙ rw (le-ltb 4096 (fileCount f), ne-eqb (length f) (3 + 2 * fileCount f)))
         refl
 
-    -- the reports stand in two stretches of a whole file
-    module _ (whole : length f ≡ 3 + 2 * fileCount f) (o : Outcome) (is : o ≡ outcomeOf (reportsRefusal (fileSize f) (take (3 + fileCount f - 3) (drop 3 f)) (take (length f - (3 + fileCount f)) (drop (3 + fileCount f) f)))) where
+    -- the outcome of the reports that stand in the two stretches of a whole file
+    abbrev pub ReportsOf : Outcome → Type 0
+    ReportsOf o =
+        let codes = take (3 + fileCount f - 3) (drop 3 f) in
+        let words = take (length f - (3 + fileCount f)) (drop (3 + fileCount f) f) in
+        o ≡ outcomeOf (reportsRefusal (fileSize f) codes words)
+
+    module _ (whole : length f ≡ 3 + 2 * fileCount f) (o : Outcome) (is : ReportsOf o) where
+      -- both stretches are the file's
       by-reports : o ≡ outcomeOf (fileRefusal f)
       by-reports =
-          is
-          ∙ rw
-          (add-sub-cancel-left 3 (fileCount f), take-all (length f - (3 + fileCount f)) (drop (3 + fileCount f) f) (simp length-drop (omega arith)), head-then-reports f, head-inside (length f) (fileSize f) (fileCount f) (sized .0) (inside (fileSize f) (sized .1) (sized .2)), le-ltb 4096 (fileCount f), eq-eqb (length f) (3 + 2 * fileCount f))
+          let words : take (length f - (3 + fileCount f)) (drop (3 + fileCount f) f) ≡ fileWords f =
+          take-all (length f - (3 + fileCount f)) (drop (3 + fileCount f) f) (simp length-drop (omega arith)) in
+          let none-met : headRefusal (length f) (fileSize f) (fileCount f) ≡ 0 =
+          head-inside _ _ _ (sized .0) (sized .1) ∙ rw (le-ltb 4096 (fileCount f), eq-eqb (length f) (3 + 2 * fileCount f)) in
+          is ∙ rw (add-sub-cancel-left 3 (fileCount f), words, head-then-reports f, none-met)
 
       pub file-served : o ≡ outcome.Served → Answered f (file.Served (fileSize f) (fileCount f))
       unfolding fileAnswer
@@ -110,7 +127,8 @@ long-head l n m h = go (dec (sizeOutside n)) (dec-lt 4096 m)
     go : (sizeOutside n ≡ true) ⊎ (sizeOutside n ≡ false) → (4096 < m) ⊎ (m ≤ 4096) → headRefusal l n m ≡ longRefusal n m
     go (inl p) q = rw p (head-outside l n m (omega arith) p)
     go (inr p) (inl q) = rw (p, lt-ltb 4096 m) (head-inside l n m (omega arith) p ∙ rw (lt-ltb 4096 m))
-    go (inr p) (inr q) = rw (p, le-ltb 4096 m) (head-inside l n m (omega arith) p ∙ rw (le-ltb 4096 m, ne-eqb l (3 + 2 * m) (λ e. omega arith)))
+    go (inr p) (inr q) = rw (p, le-ltb 4096 m)
+        (head-inside l n m (omega arith) p ∙ rw (le-ltb 4096 m, ne-eqb l (3 + 2 * m) (λ e. omega arith)))
 
 long-refused : (n m : ℕ) → eqb (longRefusal n m) 0 ≡ false
 unfolding longRefusal
@@ -128,7 +146,7 @@ module _ {A : Type 0} (served : List ℕ → A) (refused : ℕ → A) where
 
   made-long : (f : List ℕ) → longestFile < length f → made f ≡ refused (longRefusal (fileSize f) (fileCount f))
   unfolding made
-  made-long f h = let r = head-refused f _ (long-head _ _ _ h) (long-refused _ _) .1 in rw (← r, long-refused (fileSize f) (fileCount f))
+  made-long f h = rw (head-number f _ (long-head _ _ _ h) (long-refused _ _), long-refused (fileSize f) (fileCount f))
 
   made-read : (f : List ℕ) → made (take readSize f) ≡ made f
   made-read f = go (dec-lt readSize (length f))
@@ -136,7 +154,8 @@ module _ {A : Type 0} (served : List ℕ → A) (refused : ℕ → A) where
       go : (readSize < length f) ⊎ (length f ≤ readSize) → made (take readSize f) ≡ made f
       go (inl h) =
           made-long (take readSize f) (rw (length-take-le readSize f (omega arith)) (omega arith))
-          ∙ rw (getD-take readSize f 0 0 (omega arith), getD-take readSize f 1 0 (omega arith), getD-take readSize f 2 0 (omega arith)) (sym (made-long f (omega arith)))
+          ∙ rw (getD-take readSize f 0 0 (omega arith), getD-take readSize f 1 0 (omega arith), getD-take readSize f 2 0 (omega arith))
+          (sym (made-long f (omega arith)))
       go (inr h) = rw (take-all readSize f)
 
 -- what is read of a file, however long, has its answer

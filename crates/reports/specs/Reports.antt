@@ -1,5 +1,5 @@
 -- Reports: a report by the answers of its code and its word, and the reports of a file one after the other.
-use mathlib.Core.Path.{_≡_, refl, sym, _∙_}
+use mathlib.Core.Path.{_≡_, refl, sym, _∙_, ap}
 use mathlib.Core.Bool.{Bool, true, false, _&&_, cond}
 use mathlib.Core.Logic.{_⊎_, inl, inr}
 use mathlib.Core.List.{List, [], _∷_}
@@ -9,7 +9,7 @@ use native.Mathlib.Numerals.{add-one}
 use lib.Dec.{eqb, ltb}
 use lib.ListN.{length, getD, drop, drop-of-length-le}
 use lib.Seq.{drop-cons}
-use borrow.Author.Tests.{lt-ltb, le-ltb}
+use borrow.Author.Tests.{eqb-true, lt-ltb, le-ltb}
 use Rattle.model.specs.declared.Part.{Part}
 use Rattle.model.specs.declared.Word.{Word}
 use Rattle.model.specs.declared.Report.{Report}
@@ -21,13 +21,15 @@ use Rattle.model.specs.declared.WordAnswer.{WordAnswer}
 use Rattle.model.specs.declared.WordAnswer.the-variants as word
 use Rattle.model.specs.declared.ReportAnswer.{ReportAnswer}
 use Rattle.model.specs.declared.ReportAnswer.the-variants as report
-use Rattle.model.specs.Values.{wordNumber, outcomeOf, reportValues}
+use Rattle.model.specs.Values.{partCode, wordNumber, outcomeOf, numbered, reportValues}
+use Rattle.model.specs.Plant.{InRing}
 use Rattle.model.specs.Reports.{partNamed, wordNamed}
-use Rattle.model.specs.Refusals.{firstMet, orElse, wordOfOtherKind, generatorFitAgain, reportConditions, reportOf, reportAnswer, reportsRefusal}
-use Rattle.model.specs.Answers.{partAnswer, wordAnswer, reportAt}
-use Rattle.model.specs.Laws.Tests.{dec, dec-lt, by-cond}
+use Rattle.model.specs.Refusals.{firstMet, orElse, notOfRing, wordOfOtherKind, generatorFitAgain, reportConditions}
+use Rattle.model.specs.Refusals.{reportOf, reportAnswer, reportRefusal, reportsRefusal}
+use Rattle.model.specs.Answers.{partAnswer, wordAnswer, reportAt, reportValuesAt}
+use Rattle.model.specs.Laws.Tests.{dec, dec-lt}
 use Rattle.model.specs.Laws.Reports.{code-named}
-use Rattle.reports.specs.Codes.{word-named}
+use Rattle.reports.specs.Codes.{ofRing, code-reads, word-named, number-names}
 
 -- conditions 6 and 7, of a part and a word
 unfoldable pub wordConditions : Part → Word → List (ℕ × Bool)
@@ -49,7 +51,8 @@ module _ (n c v : ℕ) (a : PartAnswer) (code-is : a ≡ partAnswer (partNamed n
     unfolding reportAnswer reportOf partAnswer wordAnswer
     word-refused k e = go (partNamed n c) (wordNamed v) (sym part-is ∙ code-is) (sym e ∙ word-is)
       where
-        go : (o : Option Part) (u : Option Word) → part.Named p ≡ partAnswer o → word.Refused k ≡ wordAnswer u → report.Refused k ≡ reportOf n o u
+        go : (o : Option Part) (u : Option Word) → part.Named p ≡ partAnswer o → word.Refused k ≡ wordAnswer u
+            → report.Refused k ≡ reportOf n o u
         go none u q s = cc
         go (some x) none q s = cc
         go (some x) (some w) q s = cc
@@ -58,36 +61,75 @@ module _ (n c v : ℕ) (a : PartAnswer) (code-is : a ≡ partAnswer (partNamed n
     unfolding reportAnswer partAnswer wordAnswer
     both-named w e = go (partNamed n c) (wordNamed v) (sym part-is ∙ code-is) (sym e ∙ word-is)
       where
-        go : (o : Option Part) (u : Option Word) → part.Named p ≡ partAnswer o → word.Named w ≡ wordAnswer u → reportOf n (some p) (some w) ≡ reportOf n o u
+        go : (o : Option Part) (u : Option Word) → part.Named p ≡ partAnswer o → word.Named w ≡ wordAnswer u
+            → reportOf n (some p) (some w) ≡ reportOf n o u
         go none u q s = cc
         go (some x) none q s = cc
         go (some x) (some y) q s = cc
 
--- the values of a report that is read are the code and the word that it is read from; else there are none
-abbrev pub Gives : ℕ → ℕ → ReportAnswer → Type 0
-Gives c v r = (reportValues r ≡ (0, c ∷ v ∷ [])) ⊎ (reportValues r .1 ≡ [])
-
-answer-gives : (n c v : ℕ) → Gives c v (reportAnswer n c v)
-unfolding reportAnswer reportOf
-answer-gives n c v = go (partNamed n c) (wordNamed v) refl refl
+-- the values of a report that is read are the code and the word that it is read from
+answer-values : (n c v : ℕ) → reportValues (reportAnswer n c v) ≡ numbered (reportRefusal n c v) (c ∷ v ∷ [])
+unfolding reportAnswer reportRefusal reportOf numbered
+answer-values n c v = go (partNamed n c) (wordNamed v) refl refl
   where
-    go : (o : Option Part) (u : Option Word) → partNamed n c ≡ o → wordNamed v ≡ u → Gives c v (reportOf n o u)
-    go none u p q = inr refl
-    go (some x) none p q = inr refl
+    by-number : (k : ℕ) (r : Report) → partCode (r .part) ≡ c → wordNumber (r .word) ≡ v → (eqb k 0 ≡ true) ⊎ (eqb k 0 ≡ false)
+        → reportValues (cond (eqb k 0) (report.Read r) (report.Refused k))
+        ≡ numbered (reportValues (cond (eqb k 0) (report.Read r) (report.Refused k)) .0) (c ∷ v ∷ [])
+    by-number k r p q (inl e) = rw (e, p, q)
+    by-number k r p q (inr e) = simp e
+
+    go : (o : Option Part) (u : Option Word) → partNamed n c ≡ o → wordNamed v ≡ u
+        → reportValues (reportOf n o u) ≡ numbered (reportValues (reportOf n o u) .0) (c ∷ v ∷ [])
+    go none u p q = refl
+    go (some x) none p q = refl
     go (some x) (some w) p q =
-        by-cond (Gives c v) (eqb (firstMet (reportConditions n (record { part = x; word = w }))) 0)
-        (λ e. inl (rw (code-named n c x p .1, word-named v w q))) (λ e. inr refl)
+        by-number (firstMet (reportConditions n (record { part = x; word = w }))) (record { part = x; word = w })
+        (code-named n c x p .1) (word-named v w q) (dec _)
+
+-- ---- one reading of a report, by its part or by its code
+
+-- the number of a report that a test picks
+picked-number : (k : ℕ) (r : Report) → (eqb k 0 ≡ true) ⊎ (eqb k 0 ≡ false)
+    → reportValues (cond (eqb k 0) (report.Read r) (report.Refused k)) .0 ≡ k
+picked-number k r (inl e) = rw e (sym (eqb-true k 0 e))
+picked-number k r (inr e) = rw e
+
+-- a report's code and number are read as the part, if the ring has it, and the word
+read-as : (n : ℕ) (p : Part) (w : Word) → InRing 32 p
+    → reportRefusal n (partCode p) (wordNumber w) ≡ reportValues (reportOf n (ofRing n p) (some w)) .0
+unfolding reportRefusal reportAnswer
+read-as n p w h =
+    ap (λ o. reportValues (reportOf n o (wordNamed (wordNumber w))) .0) (code-reads n p h)
+    ∙ ap (λ u. reportValues (reportOf n (ofRing n p) u) .0) (number-names w)
+
+-- so its refusal is that of the report itself, whatever n is
+pub one-reading : (n : ℕ) (r : Report) → InRing 32 (r .part)
+    → reportRefusal n (partCode (r .part)) (wordNumber (r .word)) ≡ firstMet (reportConditions n r)
+unfolding ofRing reportOf reportConditions firstMet
+one-reading n r h = read-as n (r .part) (r .word) h ∙ go (dec (notOfRing n (r .part)))
+  where
+    go : (notOfRing n (r .part) ≡ true) ⊎ (notOfRing n (r .part) ≡ false)
+        → reportValues (reportOf n (ofRing n (r .part)) (some (r .word))) .0 ≡ firstMet (reportConditions n r)
+    go (inl e) = rw e
+    go (inr e) = simp e (picked-number _ r (dec _))
 
 -- ---- the i-th report of a file
 
 module _ (n : ℕ) (cs vs : List ℕ) (i : ℕ) where
-  pub report-gives : (r : ReportAnswer) → r ≡ reportAt n cs vs i → (r ≡ reportAt n cs vs i) × Gives (getD cs i 0) (getD vs i 0) r
-  unfolding reportAt
-  report-gives r e =
-      let gives =
-      by-cond (Gives (getD cs i 0) (getD vs i 0)) (ltb i (length cs) && ltb i (length vs))
-      (λ q. answer-gives n (getD cs i 0) (getD vs i 0)) (λ q. inr refl)
-      in (e, rw e gives)
+  pub report-gives : (r : ReportAnswer) → r ≡ reportAt n cs vs i → (r ≡ reportAt n cs vs i) × (reportValues r ≡ reportValuesAt n cs vs i)
+  unfolding reportAt reportValuesAt
+  report-gives r e = (e, rw e (go (ltb i (length cs) && ltb i (length vs))))
+    where
+      c : ℕ
+      c = getD cs i 0
+
+      v : ℕ
+      v = getD vs i 0
+
+      go : (t : Bool) → reportValues (cond t (reportAnswer n c v) report.Missing)
+          ≡ cond t (numbered (reportRefusal n c v) (c ∷ v ∷ [])) (0, [])
+      go true = answer-values n c v
+      go false = refl
 
   pub past-codes : length cs ≤ i → report.Missing ≡ reportAt n cs vs i
   unfolding reportAt
@@ -113,16 +155,18 @@ thenRest (report.Read r) rest = rest
 thenRest (report.Refused k) rest = outcome.Refused k
 thenRest report.Missing rest = outcome.Served
 
-one-report : (n c v rest : ℕ) → outcomeOf (orElse (reportValues (reportAnswer n c v) .0) rest) ≡ thenRest (reportAnswer n c v) (outcomeOf rest)
-unfolding reportAnswer reportOf outcomeOf
+one-report : (n c v rest : ℕ) → outcomeOf (orElse (reportRefusal n c v) rest) ≡ thenRest (reportAnswer n c v) (outcomeOf rest)
+unfolding reportRefusal reportAnswer reportOf outcomeOf
 one-report n c v rest = go (partNamed n c) (wordNamed v)
   where
     by-number : (k : ℕ) (r : Report) → (eqb k 0 ≡ true) ⊎ (eqb k 0 ≡ false)
-        → outcomeOf (orElse (reportValues (cond (eqb k 0) (report.Read r) (report.Refused k)) .0) rest) ≡ thenRest (cond (eqb k 0) (report.Read r) (report.Refused k)) (outcomeOf rest)
+        → outcomeOf (orElse (reportValues (cond (eqb k 0) (report.Read r) (report.Refused k)) .0) rest)
+        ≡ thenRest (cond (eqb k 0) (report.Read r) (report.Refused k)) (outcomeOf rest)
     by-number k r (inl q) = rw q
     by-number k r (inr q) = simp q
 
-    go : (o : Option Part) (u : Option Word) → outcomeOf (orElse (reportValues (reportOf n o u) .0) rest) ≡ thenRest (reportOf n o u) (outcomeOf rest)
+    go : (o : Option Part) (u : Option Word)
+        → outcomeOf (orElse (reportValues (reportOf n o u) .0) rest) ≡ thenRest (reportOf n o u) (outcomeOf rest)
     go none u = refl
     go (some p) none = refl
     go (some p) (some w) = by-number (firstMet (reportConditions n (record { part = p; word = w }))) (record { part = p; word = w }) (dec _)
@@ -135,7 +179,8 @@ reports-step : (n : ℕ) (cs vs : List ℕ) (i : ℕ) → outcomeFrom n cs vs i 
 unfolding outcomeOf reportsRefusal
 reports-step n cs vs i = go (dec-lt i (length cs)) (dec-lt i (length vs))
   where
-    go : (i < length cs) ⊎ (length cs ≤ i) → (i < length vs) ⊎ (length vs ≤ i) → outcomeFrom n cs vs i ≡ thenRest (reportAt n cs vs i) (outcomeFrom n cs vs (i + 1))
+    go : (i < length cs) ⊎ (length cs ≤ i) → (i < length vs) ⊎ (length vs ≤ i)
+        → outcomeFrom n cs vs i ≡ thenRest (reportAt n cs vs i) (outcomeFrom n cs vs (i + 1))
     go (inl p) (inl q) = rw (← within-both n cs vs i p q, add-one, drop-cons cs i 0, drop-cons vs i 0) (one-report n _ _ _)
     go (inl p) (inr q) = rw (← past-words n cs vs i q, drop-of-length-le vs q, drop-cons cs i 0)
     go (inr p) q = rw (← past-codes n cs vs i p, drop-of-length-le cs p)

@@ -1,13 +1,12 @@
 // The fault file: its part codes, its words, its reports and its checks (document 01, "Fault file and reports").
+// Parts carry the paper's numbers, from 1; codes, and the reports of a file, are counted from 0.
 ghost use mathlib.Core.Path.{_≡_};
-ghost use mathlib.Core.Logic.{_⊎_};
-ghost use mathlib.Core.List.{[], _∷_};
 ghost use mathlib.Core.Option.{some};
-ghost use lib.ListN.{getD};
-ghost use Rattle.model.specs.Values.{number, index, firstCode, partCode, wordNumber, outcomeOf, outcomeNumber, partValues, wordValues, reportValues, fileValues};
+ghost use Rattle.model.specs.Values.{number, index, firstCode, partCode, wordNumber, outcomeOf, outcomeNumber};
+ghost use Rattle.model.specs.Values.{partValues, wordValues, reportValues, fileValues};
 ghost use Rattle.model.specs.Reports.{partNamed, wordNamed};
-ghost use Rattle.model.specs.Refusals.{notOfRing, firstMet, reportConditions, reportOf, reportAnswer, reportsRefusal, fileRefusal};
-ghost use Rattle.model.specs.Answers.{partAnswer, wordAnswer, reportAt, fileAnswer};
+ghost use Rattle.model.specs.Refusals.{notOfRing, firstMet, reportConditions, reportOf, reportAnswer, reportsRefusal};
+ghost use Rattle.model.specs.Answers.{partAnswer, codeValues, wordAnswer, byteValues, reportAt, reportValuesAt, fileAnswer, wholeValues};
 ghost use Rattle.reports.specs.Codes.{ofRing};
 ghost use Rattle.reports.specs.Reports.{wordConditions};
 use model::FileAnswer;
@@ -30,12 +29,12 @@ fn part_number(part: Part) -> u8
     }
 }
 
-// Condition 5 of a part: its number is none of the ring's.
+// Condition 5 of a part: its number is none of the ring's. A ring has at most 20 of each kind.
 fn not_of_ring(n: u8, part: Part) -> bool
     ensures { λ r. ⌜ r ≡ notOfRing n part ⌝ }
 {
     let number = part_number(part);
-    number < 1 || n < number
+    number < 1 || (n < number || 20 < number)
 }
 
 // The part, if the ring has it.
@@ -53,7 +52,7 @@ fn named_in_ring(n: u8, part: Part) -> PartAnswer
 // test against n follows the range; numbers are from 1.
 pub fn part_of(code: u8, n: u8) -> PartAnswer
     ensures answer { λ r. ⌜ r ≡ partAnswer (partNamed n code) ⌝ }
-    ensures values { λ r. ⌜ (partValues r ≡ (0, code ∷ [])) ⊎ (partValues r ≡ (5, [])) ⌝ }
+    ensures values { λ r. ⌜ partValues r ≡ codeValues n code ⌝ }
 {
     match code {
         0..=19 => named_in_ring(n, Part::Generator(code + 1)),
@@ -66,7 +65,7 @@ pub fn part_of(code: u8, n: u8) -> PartAnswer
 // "Words: 0 fit again, 1 stuck off (generators), 2 stuck open, 3 stuck closed (breakers)."
 pub fn word_of(byte: u8) -> WordAnswer
     ensures answer { λ r. ⌜ r ≡ wordAnswer (wordNamed byte) ⌝ }
-    ensures values { λ r. ⌜ (wordValues r ≡ (0, byte ∷ [])) ⊎ (wordValues r ≡ (6, [])) ⌝ }
+    ensures values { λ r. ⌜ wordValues r ≡ byteValues byte ⌝ }
 {
     match byte {
         0 => WordAnswer::Named(Word::Fit),
@@ -95,7 +94,8 @@ fn first_code(part: Part) -> u16
     }
 }
 
-// The code of a part: undoes `part_of`. Wider than a byte, since a number that no ring has makes a code too.
+// The code of a part: undoes `part_of`. The papers leave free the code of a number that no ring has. It is answered as that of
+// the others is, by the kind's first code plus the number less 1 (plus 0 for the number 0), and so in more than a byte.
 pub fn code_of(part: Part) -> u16
     ensures { λ r. ⌜ r ≡ partCode part ⌝ }
 {
@@ -182,7 +182,7 @@ fn report_of(n: u8, code: u8, word: u8) -> ReportAnswer
 // The i-th report, from 0, of the part codes and the words of a file: missing past the end of either.
 pub fn report_at(n: u8, codes: &[u8], words: &[u8], i: usize) -> ReportAnswer
     ensures answer { λ r. ⌜ r ≡ reportAt n (now (codes .entry)) (now (words .entry)) i ⌝ }
-    ensures values { λ r. ⌜ (reportValues r ≡ (0, getD (now (codes .entry)) i 0 ∷ getD (now (words .entry)) i 0 ∷ [])) ⊎ (reportValues r .1 ≡ []) ⌝ }
+    ensures values { λ r. ⌜ reportValues r ≡ reportValuesAt n (now (codes .entry)) (now (words .entry)) i ⌝ }
 {
     if codes.len() <= i || words.len() <= i {
         return ReportAnswer::Missing;
@@ -211,13 +211,13 @@ fn check_reports(n: u8, codes: &[u8], words: &[u8]) -> Outcome
 // A whole fault file: 1, 2, 3, 4, then its reports first to last.
 pub fn check_file(file: &[u8]) -> FileAnswer
     ensures answer { λ r. ⌜ r ≡ fileAnswer (now (file .entry)) ⌝ }
-    ensures number { λ r. ⌜ fileValues r .0 ≡ fileRefusal (now (file .entry)) ⌝ }
+    ensures values { λ r. ⌜ fileValues r ≡ wholeValues (now (file .entry)) ⌝ }
 {
     if file.len() < 3 {
         return FileAnswer::Refused(1);
     }
     let n = file[0];
-    if n < 3 || 20 < n {
+    if components::size_outside(n) {
         return FileAnswer::Refused(2);
     }
     let m = file[1] as usize + 256 * (file[2] as usize);

@@ -25,11 +25,17 @@ fn read_file(file: &mut [u8]) -> Input
         let got = libc::read(STDIN_FILENO, &mut file[size..]);
         let more = io::count(got, &file[size..]);
         if more == 0 {
-            return Input { size, failed: got < 0 };
+            return Input {
+                size,
+                failed: got < 0,
+            };
         }
         size += more;
     }
-    Input { size, failed: false }
+    Input {
+        size,
+        failed: false,
+    }
 }
 
 // Prints the run of a file, and answers whether all of it could be written.
@@ -60,6 +66,9 @@ fn main() {
     let size = input.size;
     let mut out = io::large_buffer();
     if !print_run(&file[..size], &mut out) {
-        io::write_all(STDERR_FILENO, b"ringctl: standard output cannot be written\n");
+        io::write_all(
+            STDERR_FILENO,
+            b"ringctl: standard output cannot be written\n",
+        );
     }
 }

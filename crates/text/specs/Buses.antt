@@ -64,7 +64,9 @@ choice-length c h = go (dec-eq (choiceLetter c) (code "-"))
   where
     go : (choiceLetter c ≡ code "-") ⊎ (choiceLetter c ≡ code "-" → ⊥) → length (choiceText c) ≤ 4
     go (inl p) = rw (choice-dark c refl p) (omega arith)
-    go (inr p) = rw (choice-named c refl refl h p) (omega (arith, marked-length (choiceSource c) (choiceLetter c) (omega (arith, named-most h))))
+    go (inr p) =
+        rw (choice-named c refl refl h p)
+        (omega (arith, marked-length (choiceSource c) (choiceLetter c) (omega (arith, named-most h))))
 
 module _ (cs : List BusChoice) where
   -- one bus more
@@ -73,7 +75,8 @@ module _ (cs : List BusChoice) where
       ≡ behindSpaces (map (busText cs) (below b)) ++ busBehindSpace (b + 1) (choiceAt cs b)
   unfolding below busText ascii
   buses-more b =
-      rw (add-one, map-append, append-assoc (decimal (suc b)) (code "=" ∷ []) (choiceText (choiceAt cs b))) (behind-one (map (busText cs) (below b)) (busText cs b))
+      rw (add-one, map-append, append-assoc (decimal (suc b)) (code "=" ∷ []) (choiceText (choiceAt cs b)))
+      (behind-one (map (busText cs) (below b)) (busText cs b))
 
   -- ` B20=G20h` is the longest
   pub buses-length : (n : ℕ) → n ≤ largest → AllNamed n cs → length (behindSpaces (map (busText cs) (below n))) ≤ 9 * n
@@ -86,4 +89,10 @@ module _ (cs : List BusChoice) where
           let b = x .0 in
           let l = below-lt n b (x .1) in
           rw (x .2)
-          (omega (arith, length-append (decimal (suc b)) (ascii "=" ++ choiceText (choiceAt cs b)), decimal-length 1 (suc b) (omega arith), choice-length (choiceAt cs b) (s b l)))
+          (omega (
+            arith,
+            length-append (decimal (suc b)) (ascii "=" ++ choiceText (choiceAt cs b)),
+            decimal-length 1 (suc b)
+                (omega arith),
+            choice-length (choiceAt cs b) (s b l),
+          ))

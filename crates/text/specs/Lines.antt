@@ -6,7 +6,7 @@ use Prim.Native.Nat.{ℕ, zero, suc, _+_, _-_, _≤_, _<_}
 use native.Mathlib.Omega.{arith}
 use lib.Dec.{ltb}
 use lib.ListN.{length, getD, take, drop, length-append, length-drop}
-use lib.Seq.{take-length, drop-length, drop-cons, take-append-seam, drop-append-seam, drop-drop}
+use lib.Seq.{length-take-le, take-length, drop-length, drop-cons, take-append-seam, drop-append-seam, drop-drop}
 use borrow.Author.Tests.{ltb-true, lt-ltb}
 use borrow.Rule.Slice.PartMut.{midOf, putMid}
 use Rattle.model.specs.declared.Ring.{Ring}
@@ -45,6 +45,16 @@ pub record Filling (f : List ℕ) (k : ℕ) (before after : List ℕ) (c : RunCu
   pub some : goes ≡ false → 0 < size
 
 -- ---- laws
+
+-- what is left behind a piece is shorter
+pub left-shorter : {left : List ℕ} (out rest : List ℕ) (k : ℕ) → left ≡ take k out ++ rest → 0 < k → k ≤ length out
+    → length rest < length left
+left-shorter out rest k e p h = omega (arith, ap length e, length-append (take k out) rest, length-take-le k out h)
+
+-- a line by its number and its ring
+pub same-line : {i j : ℕ} {ring told : Ring} {before after : List ℕ} {next : Ring} {size : ℕ} → Shown i told before after next size
+    → i ≡ j → ring ≡ told → Shown j ring before after next size
+same-line s e f = rw (← e, f) s
 
 -- what was stored is in front, the rest keeps its values, and all fits
 pub stored-front : {text before after : List ℕ} {size : ℕ} → Stored text before after size → take size after ≡ text
@@ -103,7 +113,8 @@ filling-none {f} {c} w buffer =
     }
 
 -- where more is left, the next line can be put
-pub filling-within : {f before after : List ℕ} {k size : ℕ} {c : RunCursor} {goes : Bool} → Filling f k before after c size goes → goes ≡ true
+pub filling-within : {f before after : List ℕ} {k size : ℕ} {c : RunCursor} {goes : Bool} → Filling f k before after c size goes
+    → goes ≡ true
     → Within f c
 filling-within {f} {c = c} s e =
     record { cursor = s .cursor; more = ltb-true (c .place) (length (runLines f)) (sym (s .more) ∙ e) }
@@ -117,16 +128,16 @@ passed-less {f} {c = c} {p} w t =
     omega (arith, w .more)
 
 -- one line more
-pub filling-more : {f before between last : List ℕ} {k size : ℕ} {c : RunCursor} {p : RunPiece} {goes : Bool}
+pub filling-more : {f before between last : List ℕ} {k size : ℕ} {c : RunCursor} {p : RunPiece} {goes : Bool} (all : ℕ)
     → Filling f k before between c size goes → goes ≡ true → Passed f (c .place) (midOf size (length between - size) between) last p
-    → Filling f k before (putMid size (length between - size) between last) (p .cursor) (size + p .length) (p .more)
+    → all ≡ size + p .length → Filling f k before (putMid size (length between - size) between last) (p .cursor) all (p .more)
 unfolding cursorAt
-filling-more {f} {c = c} {p = p} s e t =
+filling-more {f} {c = c} {p = p} all s e t h =
     let both = stored-more (s .stored) (t .stored) in
     let next : p .cursor .place ≡ suc (c .place) = ap (λ (x : RunCursor). x .place) (t .cursor) in
     record {
-      run = s .run ∙ rw (left-line f (c .place) (filling-within s e .more), next, stored-front both, append-assoc);
-      stored = rw (stored-front both) both;
+      run = s .run ∙ rw (h, left-line f (c .place) (filling-within s e .more), next, stored-front both, append-assoc);
+      stored = rw (h, stored-front both) both;
       cursor = t .cursor ∙ ap (cursorAt f) (sym next);
       more = rw next (t .more);
       some = λ z. omega (arith, t .some);

@@ -52,7 +52,9 @@ module _ (n : ℕ) (h : n ≤ largest) where
   kind : (p : Part) → InRing n p → kindOf (partCode p) ≡ kindName p
   unfolding kindOf partCode kindName
   kind (Generator k) r = let e = index-suc k (r .0) in rw (lt-ltb (0 + index k) 32 (omega arith))
-  kind (GeneratorBreaker k) r = let e = index-suc k (r .0) in rw (le-ltb (32 + index k) 32 (omega arith), lt-ltb (32 + index k) 64 (omega arith))
+  kind (GeneratorBreaker k) r =
+      let e = index-suc k (r .0) in
+      rw (le-ltb (32 + index k) 32 (omega arith), lt-ltb (32 + index k) 64 (omega arith))
   kind (BusBreaker k) r = rw (le-ltb (64 + index k) 32 (omega arith), le-ltb (64 + index k) 64 (omega arith))
 
   numbered : (p : Part) → InRing n p → partCode p % 32 + 1 ≡ number p
@@ -63,12 +65,20 @@ module _ (n : ℕ) (h : n ≤ largest) where
 
   -- the parts of a phase, whose commands are all v
   module _ (v : ℕ) (s : String) (e : ascii s ≡ sign v ∷ []) where
-    operations : (ps : List Part) → ((p : Part) → p ∈ ps → InRing n p) → zipWith operationText (map partCode ps) (map (λ p. v) ps) ≡ map (λ p. partName p ++ ascii s) ps
+    operations : (ps : List Part) → ((p : Part) → p ∈ ps → InRing n p)
+        → zipWith operationText (map partCode ps) (map (λ p. v) ps) ≡ map (λ p. partName p ++ ascii s) ps
     unfolding zipWith operationText
     operations [] r = refl
     operations (p ∷ ps) r =
         let m = r p (List·Memᴰ·head refl) in
-        rw (operations ps (λ q k. r q (List·Memᴰ·tail k)), kind p m, numbered p m, e, append-assoc (kindName p) (decimal (number p)) (sign v ∷ []))
+        rw (
+          operations ps (λ q k. r q (List·Memᴰ·tail k)),
+          kind p m,
+          numbered p m,
+          e,
+          append-assoc (kindName p) (decimal (number p))
+              (sign v ∷ []),
+        )
 
     phase : (ps : List Part) → ((p : Part) → p ∈ ps → InRing n p) → phaseOf (map partCode ps) (map (λ p. v) ps) ≡ phaseText s ps
     unfolding phaseOf phaseText operationsText
@@ -101,11 +111,19 @@ firstOperations codes commands i = behindSpaces (zipWith operationText (take i c
 module _ (codes commands : List ℕ) (i : ℕ) (e : length commands ≡ length codes) where
   -- one operation more
   pub first-more : i < length codes
-      → firstOperations codes commands (i + 1) ≡ firstOperations codes commands i ++ (ascii " " ++ operationText (getD codes i 0) (getD commands i 0))
+      → firstOperations codes commands (i + 1) ≡ firstOperations codes commands i ++
+      (ascii " " ++ operationText (getD codes i 0) (getD commands i 0))
   unfolding ascii
   first-more h =
-      let l : length (take i codes) ≡ length (take i commands) = length-take-le i codes (omega arith) ∙ sym (length-take-le i commands (omega arith)) in
-      rw (add-one, take-suc codes i 0 h, take-suc commands i 0 (omega arith), zip-one operationText (take i codes) (take i commands) (getD codes i 0) (getD commands i 0) l)
+      let l : length (take i codes) ≡ length (take i commands) = length-take-le i codes (omega arith) ∙ sym
+      (length-take-le i commands (omega arith)) in
+      rw (
+        add-one,
+        take-suc codes i 0 h,
+        take-suc commands i 0 (omega arith),
+        zip-one operationText (take i codes) (take i commands)
+            (getD codes i 0) (getD commands i 0) l,
+      )
       (behind-one (zipWith operationText (take i codes) (take i commands)) (operationText (getD codes i 0) (getD commands i 0)))
 
   -- all of them
@@ -123,7 +141,9 @@ pub phase-some : (codes commands : List ℕ) → length commands ≡ length code
 unfolding phaseOf operationsText zipWith ascii
 phase-some [] commands e h = absurd (h refl)
 phase-some (c ∷ codes) [] e h = absurd (omega arith)
-phase-some (c ∷ codes) (v ∷ commands) e h = ap (λ l. code " " ∷ code "/" ∷ l) (behind-spaced (operationText c v ∷ zipWith operationText codes commands) (omega arith))
+phase-some (c ∷ codes) (v ∷ commands) e h =
+    ap (λ l. code " " ∷ code "/" ∷ l)
+    (behind-spaced (operationText c v ∷ zipWith operationText codes commands) (omega arith))
 
 -- ---- lengths
 
@@ -142,8 +162,15 @@ unfolding behindSpaces zipWith operationText
 operations-length [] commands = omega arith
 operations-length (c ∷ codes) [] = omega arith
 operations-length (c ∷ codes) (v ∷ commands) =
-    omega
-    (arith, length-append (operationText c v) (behindSpaces (zipWith operationText codes commands)), length-append (kindOf c) (marked (c % 32 + 1) (sign v)), kind-length c, marked-length (c % 32 + 1) (sign v) (omega arith), operations-length codes commands)
+    omega (
+      arith,
+      length-append (operationText c v) (behindSpaces (zipWith operationText codes commands)),
+      length-append (kindOf c)
+          (marked (c % 32 + 1) (sign v)),
+      kind-length c,
+      marked-length (c % 32 + 1) (sign v) (omega arith),
+      operations-length codes commands,
+    )
 
 pub phase-length : (codes commands : List ℕ) → length commands ≡ length codes → length (phaseOf codes commands) ≤ 1 + 6 * length codes
 unfolding ascii

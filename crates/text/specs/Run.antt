@@ -20,7 +20,8 @@ use Rattle.model.specs.declared.RunPiece.{RunPiece}
 use Rattle.model.specs.Lists.{below}
 use Rattle.model.specs.Plant.{smallest, largest}
 use Rattle.model.specs.Reports.{fileSize, fileCount, fileCodes, fileWords, blankRing, told, withPlan}
-use Rattle.model.specs.Refusals.{firstMet, orElse, sizeOutside, reportConditions, reportAnswer, reportRefusal, reportsRefusal, fileRefusal, badRecord}
+use Rattle.model.specs.Refusals.{firstMet, orElse, sizeOutside, reportConditions}
+use Rattle.model.specs.Refusals.{reportAnswer, reportRefusal, reportsRefusal, fileRefusal, badRecord}
 use Rattle.model.specs.Answers.{reportAt, fileAnswer}
 use Rattle.model.specs.Text.{ascii, header, refusedText, line, transitionLine, toldAnswer, runRing, servedLines, refusedLines, runLines}
 use Rattle.model.specs.Text.{printedRun, runLeft, stateAt, cursorAt, Within}
@@ -160,8 +161,8 @@ module _ (f : List ℕ) (served : fileRefusal f ≡ 0) where
 
   -- the answer to report i as the code asks for it: of the ring's size, and of the two stretches of a file that has m reports
   module _ {i m : ℕ} {ring : Ring} {a : ReportAnswer} (few : i < fileCount f) (count : m ≡ (length f - 3) / 2)
-    (state : ring ≡ withPlan (runRing f i))
-    (answer : a ≡ reportAt (ring .n) (take (3 + m - 3) (drop 3 f)) (take (length f - (3 + m)) (drop (3 + m) f)) i) where
+      (state : ring ≡ withPlan (runRing f i))
+      (answer : a ≡ reportAt (ring .n) (take (3 + m - 3) (drop 3 f)) (take (length f - (3 + m)) (drop (3 + m) f)) i) where
     report-is : (a ≡ reportAt (fileSize f) (fileCodes f) (fileWords f) i) × (ring .n ≡ fileSize f) × (badRecord ring ≡ false)
     unfolding withPlan
     report-is =

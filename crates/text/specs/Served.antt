@@ -24,9 +24,10 @@ use Rattle.model.specs.Text.{transitionLine}
 use Rattle.model.specs.Laws.Sheet.{sheet-fits, sheetOf-length}
 use Rattle.model.specs.Laws.Refusals.{inside, good-size}
 use Rattle.model.specs.Laws.Choosing.{choices-at, choice-source}
-use Rattle.theory.specs.Choosing.{chosen-ends}
-use Rattle.theory.specs.Operations.{opening-at, closing-at}
-use Rattle.theory.specs.Records.{started, step-good, made-good}
+use Rattle.theory.specs.Proofs.Choosing.{chosen-ends}
+use Rattle.theory.specs.Proofs.Operations.{opening-at, closing-at}
+use Rattle.theory.specs.Statements.Records.{started}
+use Rattle.theory.specs.Theorems.Records.{step-good, made-good}
 use Rattle.text.specs.Buses.{AllNamed, Named}
 use Rattle.text.specs.SheetLine.{SheetBytes, sheetLine, sheet-is, sheet-line}
 use Rattle.text.specs.Lines.{Stored, Shown}
@@ -76,9 +77,9 @@ module _ (ring : Ring) (small : ring .n ≤ largest) (buffer : List ℕ) where
 
   -- a call whose reply is served gives it
   served-given : {reply : Reply} → reply ≡ servedReply ring buffer
-      → (a : RingAnswer) (after : List ℕ) → (a ≡ reply .answer) × (after ≡ reply .buffer) → Given ring a after
+      → (a : RingAnswer) (after : List ℕ) → a ≡ reply .answer → after ≡ reply .buffer → Given ring a after
   unfolding servedReply servedAnswer
-  served-given is a after gives =
+  served-given is a after answered left =
       record {
         named = rw (given .0) (choices-named (ring .n) (healthOf (ring .health)) small);
         sheet = rw (given .1) transition-sheet;
@@ -86,7 +87,7 @@ module _ (ring : Ring) (small : ring .n ≤ largest) (buffer : List ℕ) where
       }
     where
       given : (a ≡ servedReply ring buffer .answer) × (after ≡ servedReply ring buffer .buffer)
-      given = rw is at gives
+      given = (rw is at answered, rw is at left)
 
       shown : (i : ℕ) (before out : List ℕ) (size : ℕ)
           → out ≡ written (sheetLine i (ring .n) (a .choices) after) before
@@ -98,7 +99,8 @@ module _ (ring : Ring) (small : ring .n ≤ largest) (buffer : List ℕ) where
 
 -- ---- with a buffer of 122 bytes every start of a ring's size is served, and every step whose report is not refused
 
-room-enough : (ring : Ring) → ring .n ≤ largest → (buffer : List ℕ) → 122 ≤ length buffer → tooShort (length buffer) (nextSheet ring) ≡ false
+room-enough : (ring : Ring) → ring .n ≤ largest → (buffer : List ℕ) → 122 ≤ length buffer
+    → tooShort (length buffer) (nextSheet ring) ≡ false
 unfolding tooShort nextSheet
 room-enough ring small buffer enough =
     le-ltb (length buffer) _ (omega (arith, sheet-fits (ring .n) (commandsOf (ring .commands)) (planned ring) small))
@@ -117,14 +119,14 @@ step-serves ring good r checked buffer enough =
     in rw passes
 
 module _ (n : ℕ) (big : smallest ≤ n) (small : n ≤ largest) (buffer : List ℕ) (enough : 122 ≤ length buffer) where
-  pub start-given : (a : RingAnswer) (after : List ℕ) → (a ≡ startReply n buffer .answer) × (after ≡ startReply n buffer .buffer)
+  pub start-given : (a : RingAnswer) (after : List ℕ) → a ≡ startReply n buffer .answer → after ≡ startReply n buffer .buffer
       → Given (blankRing n) a after
   unfolding blankRing
   start-given = served-given (blankRing n) small buffer (start-serves n big small buffer enough)
 
 module _ (ring : Ring) (good : badRecord ring ≡ false) (r : Report) (checked : firstMet (reportConditions (ring .n) r) ≡ 0) where
   pub step-given : (buffer : List ℕ) → 122 ≤ length buffer → (a : RingAnswer) (after : List ℕ)
-      → (a ≡ stepReply ring r buffer .answer) × (after ≡ stepReply ring r buffer .buffer) → Given (told ring r) a after
+      → a ≡ stepReply ring r buffer .answer → after ≡ stepReply ring r buffer .buffer → Given (told ring r) a after
   unfolding told
   step-given buffer enough = served-given (told ring r) (good-size ring good .1) buffer (step-serves ring good r checked buffer enough)
 

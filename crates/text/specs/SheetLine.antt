@@ -46,7 +46,8 @@ closingText bytes = let a = openingSize bytes in let b = closingSize bytes in ph
 
 -- the line: its number, each bus, both phases
 unfoldable pub sheetLine : ℕ → ℕ → List BusChoice → List ℕ → List ℕ
-sheetLine i n cs bytes = decimal i ++ (ascii " " ++ (spaced (map (busText cs) (below n)) ++ (openingText bytes ++ (closingText bytes ++ ascii "\n"))))
+sheetLine i n cs bytes =
+    decimal i ++ (ascii " " ++ (spaced (map (busText cs) (below n)) ++ (openingText bytes ++ (closingText bytes ++ ascii "\n"))))
 
 -- the bytes begin with a sheet that has no more operations than the largest ring has parts
 pub record SheetBytes (bytes : List ℕ) : Type 0 where
@@ -56,7 +57,8 @@ pub record SheetBytes (bytes : List ℕ) : Type 0 where
 -- ---- a sheet's line is the model's
 
 -- what stands in a list between two others
-between : (ps l rs bytes : List ℕ) (from k : ℕ) → bytes ≡ ps ++ (l ++ rs) → length ps ≡ from → length l ≡ k → stretch from (from + k) bytes ≡ l
+between : (ps l rs bytes : List ℕ) (from k : ℕ) → bytes ≡ ps ++ (l ++ rs) → length ps ≡ from → length l ≡ k
+    → stretch from (from + k) bytes ≡ l
 between ps l rs bytes from k e f g =
     let d : from + k - from ≡ length l = omega arith in
     rw (d, e, ← f, drop-append-seam ps (l ++ rs)) (take-append-seam l rs)
@@ -82,15 +84,18 @@ module _ (xs ys : List Part) (buffer : List ℕ) where
       rw (
         between (a ∷ b ∷ []) c (c′ ++ (v ++ (v′ ++ rest))) bytes 2 a e refl (length-map xs _),
         between (a ∷ b ∷ c) c′ (v ++ (v′ ++ rest)) bytes (2 + a) b e (simp length-map (omega arith)) (length-map ys _),
-        between (a ∷ b ∷ (c ++ c′)) v (v′ ++ rest) bytes (2 + a + b) a (e ∙ simp append-assoc) (simp (length-append, length-map) (omega arith)) (length-map xs _),
-        between (a ∷ b ∷ (c ++ c′ ++ v)) v′ rest bytes (2 + a + b + a) b (e ∙ simp append-assoc) (simp (length-append, length-map) (omega arith)) (length-map ys _),
+        between (a ∷ b ∷ (c ++ c′)) v (v′ ++ rest) bytes (2 + a + b) a (e ∙ simp append-assoc)
+            (simp (length-append, length-map) (omega arith)) (length-map xs _),
+        between (a ∷ b ∷ (c ++ c′ ++ v)) v′ rest bytes (2 + a + b + a) b (e ∙ simp append-assoc)
+            (simp (length-append, length-map) (omega arith)) (length-map ys _),
         opening-parts n h xs r,
         closing-parts n h ys s,
       ) (simp append-assoc)
 
 -- a line as it is appended
 pub line-parts : (i n : ℕ) (cs : List BusChoice) (bytes : List ℕ) → 0 < n
-    → sheetLine i n cs bytes ≡ decimal i ++ behindSpaces (map (busText cs) (below n)) ++ (openingText bytes ++ closingText bytes) ++ ascii "\n"
+    → sheetLine i n cs bytes ≡ decimal i ++ behindSpaces (map (busText cs) (below n)) ++
+    (openingText bytes ++ closingText bytes) ++ ascii "\n"
 unfolding sheetLine
 line-parts i n cs bytes h =
     let e : 0 < length (map (busText cs) (below n)) = omega (arith, length-map (below n) (busText cs), below-length n) in
@@ -102,7 +107,8 @@ stretch-length : (from to : ℕ) (bytes : List ℕ) → to ≤ length bytes → 
 stretch-length from to bytes h = length-take-le (to - from) (drop from bytes) (omega (arith, length-drop from bytes))
 
 -- a phase whose codes and commands lie within the bytes
-within : (bytes : List ℕ) (k from from′ : ℕ) → from + k ≤ length bytes → from′ + k ≤ length bytes → length (phaseAt bytes k from from′) ≤ 4 + 6 * k
+within : (bytes : List ℕ) (k from from′ : ℕ) → from + k ≤ length bytes → from′ + k ≤ length bytes
+    → length (phaseAt bytes k from from′) ≤ 4 + 6 * k
 unfolding ascii
 within bytes k from from′ h h′ =
     let c = stretch-length from (from + k) bytes h in
@@ -111,13 +117,16 @@ within bytes k from from′ h h′ =
 
 module _ (bytes : List ℕ) (s : SheetBytes bytes) where
   pub opening-length : length (openingText bytes) ≤ 4 + 6 * openingSize bytes
-  opening-length = within bytes (openingSize bytes) 2 (2 + openingSize bytes + closingSize bytes) (omega (arith, s .whole)) (omega (arith, s .whole))
+  opening-length =
+      within bytes (openingSize bytes) 2 (2 + openingSize bytes + closingSize bytes) (omega (arith, s .whole)) (omega (arith, s .whole))
 
   pub closing-length : length (closingText bytes) ≤ 4 + 6 * closingSize bytes
   closing-length =
-      within bytes (closingSize bytes) (2 + openingSize bytes) (2 + openingSize bytes + closingSize bytes + openingSize bytes) (omega (arith, s .whole)) (omega (arith, s .whole))
+      within bytes (closingSize bytes) (2 + openingSize bytes) (2 + openingSize bytes + closingSize bytes + openingSize bytes)
+      (omega (arith, s .whole)) (omega (arith, s .whole))
 
-  pub line-length : (i n : ℕ) (cs : List BusChoice) → i < 10000 → 0 < n → n ≤ largest → AllNamed n cs → length (sheetLine i n cs bytes) ≤ lineRoom
+  pub line-length : (i n : ℕ) (cs : List BusChoice) → i < 10000 → 0 < n → n ≤ largest → AllNamed n cs
+      → length (sheetLine i n cs bytes) ≤ lineRoom
   unfolding ascii
   line-length i n cs h p l c =
       let a = decimal i in
@@ -125,12 +134,29 @@ module _ (bytes : List ℕ) (s : SheetBytes bytes) where
       let o = openingText bytes in
       let d = closingText bytes in
       rw (line-parts i n cs bytes p)
-      (omega (arith, length-append (a ++ b ++ (o ++ d)) (ascii "\n"), length-append (a ++ b) (o ++ d), length-append a b, length-append o d, decimal-length 3 i h, buses-length cs n l c, opening-length, closing-length, s .few))
+      (omega (
+        arith,
+        length-append (a ++ b ++ (o ++ d)) (ascii "\n"),
+        length-append (a ++ b) (o ++ d),
+        length-append a b,
+        length-append o d,
+        decimal-length 3 i h,
+        buses-length cs n l c,
+        opening-length,
+        closing-length,
+        s .few,
+      ))
 
 pub header-fits : (n m : ℕ) → n < 10000 → m < 10000 → length (header n m) ≤ lineRoom
 unfolding header ascii
 header-fits n m h l =
-    omega (arith, length-append (decimal n) (ascii " reports " ++ (decimal m ++ ascii "\n")), length-append (decimal m) (ascii "\n"), decimal-length 3 n h, decimal-length 3 m l)
+    omega (
+      arith,
+      length-append (decimal n) (ascii " reports " ++ (decimal m ++ ascii "\n")),
+      length-append (decimal m) (ascii "\n"),
+      decimal-length 3 n h,
+      decimal-length 3 m l,
+    )
 
 pub refused-fits : (k : ℕ) → k < 10000 → length (refusedText k) ≤ lineRoom
 unfolding refusedText ascii

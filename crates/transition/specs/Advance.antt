@@ -19,7 +19,7 @@ use Rattle.model.specs.Refusals.{sheetRefusal, nextSheet}
 use Rattle.model.specs.Answers.{bufferAfter, refusedAnswer, servedAnswer}
 use Rattle.model.specs.Laws.Refusals.{served-zero, refused-number}
 use Rattle.model.specs.Laws.Answers.{Gives, gives-served, gives-refused}
-use Rattle.theory.specs.Locality.{sheet-held}
+use Rattle.theory.specs.Theorems.Locality.{sheet-held}
 
 -- the sheet from a ring's commands to the new ones
 abbrev pub sheetTo : Ring → Commands → List ℕ

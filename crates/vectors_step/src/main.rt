@@ -74,7 +74,7 @@ fn same_bytes_at(values: [u8; 20], case: &[u8; 288], from: usize) -> bool
     requires { ⌜ from ≤ 268 ⌝ }
 {
     let expected = cases::bytes_at(case, from);
-    cases::same_bytes(&values, &expected)
+    check::same(&values, &expected)
 }
 
 // Whether an array is the twenty commands of a case from an index on.
@@ -134,7 +134,7 @@ fn agrees(case: &[u8; 288], buffer: &mut [u8], expected: &[u8]) -> bool {
         && same_health(health, case)
         && same_standing(commands, case)
         && same_choices(choices, case)
-        && cases::same_bytes(buffer, expected)
+        && check::same(buffer, expected)
 }
 
 // A byte as a length.

@@ -25,5 +25,14 @@ returns c = let l = c .before .loop in rw (le-antisymm (l .inv .1) (c .loop-test
 pub commands-at-spec : {M : Type 1} → statement M
 commands-at-spec =
     tie.close
-    (tie.spec Inv-loop μ-loop (λ c. (filled-none false _, search needs)) (λ c. search needs) (λ c. search needs) (λ c. search needs) (λ c. search needs)
-    (λ c. search needs) loop-again returns)
+    (tie.spec
+    Inv-loop
+    μ-loop
+    (λ c. (filled-none false _, search needs))
+    (λ c. search needs)
+    (λ c. search needs)
+    (λ c. search needs)
+    (λ c. search needs)
+    (λ c. search needs)
+    loop-again
+    returns)

@@ -27,7 +27,8 @@ Gives k ring kept buffer r after =
     × ((outcomeNumber (r .outcome) ≡ k) × (choiceValues (r .choices) ≡ callValues k ring)))
 
 module _ (k : ℕ) (ring kept : Ring) (buffer : List ℕ) (r : RingAnswer) where
-  pub gives-served : (after : List ℕ) → k ≡ 0 → r ≡ servedAnswer ring → after ≡ written (nextSheet ring) buffer → Gives k ring kept buffer r after
+  pub gives-served : (after : List ℕ) → k ≡ 0 → r ≡ servedAnswer ring → after ≡ written (nextSheet ring) buffer
+      → Gives k ring kept buffer r after
   unfolding servedReply servedAnswer callValues
   gives-served after e is left = rw (e, is) (refl, (left, (refl, choices-values (ring .n) (healthOf (ring .health)))))
 

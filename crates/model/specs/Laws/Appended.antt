@@ -29,7 +29,8 @@ appended-more {xs} {ys} {l} {i = i} a b =
     }
 
 -- one byte behind them
-pub appended-one : {xs zs l l′ : List ℕ} {i j k : ℕ} (x : ℕ) → zs ≡ xs ++ (x ∷ []) → k ≡ j + 1 → Appended xs l i l′ j → Appended zs l i (set l′ j x) k
+pub appended-one : {xs zs l l′ : List ℕ} {i j k : ℕ} (x : ℕ) → zs ≡ xs ++ (x ∷ []) → k ≡ j + 1 → Appended xs l i l′ j
+    → Appended zs l i (set l′ j x) k
 appended-one x e h a = rw (e, h) (appended-more a (record { stored = refl; end = refl }))
 
 -- one byte, and two

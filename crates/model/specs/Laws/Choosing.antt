@@ -27,7 +27,8 @@ use Rattle.model.specs.Laws.Parts.{places-at}
 pub choice-source : (n : ℕ) (w : Path) → choiceSource (choiceOf n (some w)) ≡ suc (w .source)
 unfolding choiceOf
 choice-source n w = by-cond (λ (c : Choice). choiceSource c ≡ suc (w .source)) (eqb (w .source) (w .bus)) (λ e. refl)
-    (λ e. by-cond (λ (c : Choice). choiceSource c ≡ suc (w .source)) (Bool·beq (w .rising) (highRises n (w .source) (w .bus))) (λ e. refl) (λ e. refl))
+    (λ e. by-cond (λ (c : Choice). choiceSource c ≡ suc (w .source)) (Bool·beq (w .rising) (highRises n (w .source) (w .bus))) (λ e. refl)
+    (λ e. refl))
 
 -- no path has the choice of a dark bus
 pub choice-dark : (n : ℕ) (o : Option Path) → choiceOf n o ≡ Dark → o ≡ none
@@ -35,10 +36,12 @@ choice-dark n none e = refl
 choice-dark n (some w) e = absurd (omega (arith, sym (choice-source n w) ∙ ap choiceSource e))
 
 -- a bus of the ring has the choice of its path
-pub choices-at : (n : ℕ) (H : PartHealth) (b : ℕ) (d : BusChoice) → b < n → n ≤ largest → getD (choices n H) b d .choice ≡ choiceOf n (plan n H b)
+pub choices-at : (n : ℕ) (H : PartHealth) (b : ℕ) (d : BusChoice) → b < n → n ≤ largest
+    → getD (choices n H) b d .choice ≡ choiceOf n (plan n H b)
 unfolding choices places
 choices-at n H b d h small =
-    ap (λ (c : BusChoice). c .choice) (places-at (λ k. record { choice = cond (ltb k n) (choiceOf n (plan n H k)) Dark }) b d (omega arith)) ∙ rw (lt-ltb b n h)
+    ap (λ (c : BusChoice). c .choice)
+    (places-at (λ k. record { choice = cond (ltb k n) (choiceOf n (plan n H k)) Dark }) b d (omega arith)) ∙ rw (lt-ltb b n h)
 
 -- ---- the values of choices
 

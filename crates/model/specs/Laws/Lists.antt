@@ -105,7 +105,8 @@ module _ {A : Type 0} (f : A → Bool) where
   any-at [] e = contra e refl
   any-at (x ∷ xs) e = go (any-at xs) (or-cases (f x) _ e)
     where
-      go : (anyOf f xs ≡ true → (y : A) × (y ∈ xs) × (f y ≡ true)) → (f x ≡ true) ⊎ (anyOf f xs ≡ true) → (y : A) × (y ∈ x ∷ xs) × (f y ≡ true)
+      go : (anyOf f xs ≡ true → (y : A) × (y ∈ xs) × (f y ≡ true)) → (f x ≡ true) ⊎ (anyOf f xs ≡ true)
+          → (y : A) × (y ∈ x ∷ xs) × (f y ≡ true)
       go r (inl p) = (x, List·Memᴰ·head refl, p)
       go r (inr p) = let t = r p in (t .0, List·Memᴰ·tail (t .1), t .2)
 
@@ -213,12 +214,14 @@ unfolding keep
 keep-map f g [] = refl
 keep-map f g (x ∷ xs) = go (keep-map f g xs) (dec (f (g x)))
   where
-    go : keep f (map g xs) ≡ map g (keep (λ y. f (g y)) xs) → (f (g x) ≡ true) ⊎ (f (g x) ≡ false) → keep f (map g (x ∷ xs)) ≡ map g (keep (λ y. f (g y)) (x ∷ xs))
+    go : keep f (map g xs) ≡ map g (keep (λ y. f (g y)) xs) → (f (g x) ≡ true) ⊎ (f (g x) ≡ false)
+        → keep f (map g (x ∷ xs)) ≡ map g (keep (λ y. f (g y)) (x ∷ xs))
     go r (inl p) = rw (p, r)
     go r (inr p) = rw (p, r)
 
 -- two tests that no element passes both of keep no more elements than there are
-pub keep-apart : {A : Type 0} (f g : A → Bool) → ((x : A) → f x ≡ true → g x ≡ false) → (xs : List A) → length (keep f xs) + length (keep g xs) ≤ length xs
+pub keep-apart : {A : Type 0} (f g : A → Bool) → ((x : A) → f x ≡ true → g x ≡ false) → (xs : List A)
+    → length (keep f xs) + length (keep g xs) ≤ length xs
 unfolding keep
 keep-apart f g apart [] = omega arith
 keep-apart f g apart (x ∷ xs) = go (keep-apart f g apart xs) (dec (f x)) (dec (g x))
@@ -282,7 +285,8 @@ module _ {A : Type 0} (f : A → Bool) where
 abbrev pub Rising : List ℕ → Type 0
 Rising xs = RisingBy (λ i. i) xs
 
-pub rising-append : {A : Type 0} {g : A → ℕ} {xs ys : List A} → RisingBy g xs → RisingBy g ys → ((x y : A) → x ∈ xs → y ∈ ys → g x < g y) → RisingBy g (xs ++ ys)
+pub rising-append : {A : Type 0} {g : A → ℕ} {xs ys : List A} → RisingBy g xs → RisingBy g ys → ((x y : A) → x ∈ xs → y ∈ ys → g x < g y)
+    → RisingBy g (xs ++ ys)
 rising-append empty s f = s
 rising-append {A} {g} {ys = ys} (more {x = x} {xs = xs} l r) s f =
     more (λ y m. go y (List·Memᴰ·append-cases xs m)) (rising-append r s (λ z y m k. f z y (List·Memᴰ·tail m) k))
@@ -293,7 +297,8 @@ rising-append {A} {g} {ys = ys} (more {x = x} {xs = xs} l r) s f =
 
 pub rising-map : {A B : Type 0} (g : B → ℕ) (f : A → B) {xs : List A} → RisingBy (λ x. g (f x)) xs → RisingBy g (map f xs)
 rising-map g f empty = empty
-rising-map g f (more {x = x} {xs = xs} l r) = more {x = f x} (λ y m. let t = map-at f xs m in rw (t .2) (l (t .0) (t .1))) (rising-map g f r)
+rising-map g f (more {x = x} {xs = xs} l r) =
+    more {x = f x} (λ y m. let t = map-at f xs m in rw (t .2) (l (t .0) (t .1))) (rising-map g f r)
 
 pub rising-mono : {A : Type 0} {g h : A → ℕ} {xs : List A} → ((x y : A) → g x < g y → h x < h y) → RisingBy g xs → RisingBy h xs
 rising-mono f empty = empty
@@ -311,4 +316,6 @@ rising-keep {g = g} f (more {x = x} {xs = xs} l r) = go (rising-keep f r) (dec (
 pub rising-below : (n : ℕ) → Rising (below n)
 unfolding below
 rising-below zero = empty
-rising-below (suc n) = rising-append (rising-below n) (more (λ y m. absurd (List·Memᴰ·not-nil m)) empty) (λ x y m k. rw (List·Memᴰ·eq-of-singleton k) (below-lt n x m))
+rising-below (suc n) =
+    rising-append (rising-below n) (more (λ y m. absurd (List·Memᴰ·not-nil m)) empty)
+    (λ x y m k. rw (List·Memᴰ·eq-of-singleton k) (below-lt n x m))

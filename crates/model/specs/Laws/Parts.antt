@@ -2,7 +2,7 @@
 use mathlib.Core.Path.{_≡_, refl, sym, _∙_, ap}
 use mathlib.Core.Bool.{Bool, true, false, cond}
 use mathlib.Core.Logic.{_⊎_, inl, inr, _≢_}
-use mathlib.Core.List.{List, [], _∷_, _++_, map, List·Memᴰ·append-cases, Memᴰ·append-left, Memᴰ·append-right}
+use mathlib.Core.List.{List, _++_, map, List·Memᴰ·append-cases, Memᴰ·append-left, Memᴰ·append-right}
 use Prim.Native.Nat.{ℕ, zero, suc, _+_, _*_, _≤_, _<_}
 use native.Mathlib.Omega.{arith}
 use lib.Dec.{eqb, ltb}
@@ -17,8 +17,8 @@ use Rattle.model.specs.Values.{number, index, firstCode, partCode, sameP
 use Rattle.model.specs.Plant.{PartHealth, PartCommands, largest, generator, generatorBreaker, busBreaker, parts, InRing}
 use Rattle.model.specs.Reports.{atNumber, places, healthOf, commandsOf, healthPlaces, commandPlaces}
 use Rattle.model.specs.Laws.Tests.{and-intro, dec-eq, contra, below-other, below-last}
-use Rattle.model.specs.Laws.Lists.{any-in, any-false, below-in, below-lt, below-length, map-below-at, map-in, map-at, rising-append}
-use Rattle.model.specs.Laws.Lists.{rising-map, rising-mono, rising-below}
+use Rattle.model.specs.Laws.Lists.{any-in, any-false, below-in, below-lt, below-length, map-below-at, map-in, map-at, rising-append, rising-map}
+use Rattle.model.specs.Laws.Lists.{rising-mono, rising-below}
 
 -- ---- one part
 
@@ -51,9 +51,12 @@ kind-in kind n (suc i) l h = map-in (λ j. kind (suc j)) (below-in n i (omega ar
 
 pub parts-in : (n : ℕ) (p : Part) → InRing n p → p ∈ parts n
 unfolding parts
-parts-in n (Generator k) h = Memᴰ·append-left (map generatorBreaker (below n) ++ map busBreaker (below n)) (kind-in Generator n k (h .0) (h .1))
-parts-in n (GeneratorBreaker k) h = Memᴰ·append-right (map generator (below n)) (Memᴰ·append-left (map busBreaker (below n)) (kind-in GeneratorBreaker n k (h .0) (h .1)))
-parts-in n (BusBreaker k) h = Memᴰ·append-right (map generator (below n)) (Memᴰ·append-right (map generatorBreaker (below n)) (kind-in BusBreaker n k (h .0) (h .1)))
+parts-in n (Generator k) h =
+    Memᴰ·append-left (map generatorBreaker (below n) ++ map busBreaker (below n)) (kind-in Generator n k (h .0) (h .1))
+parts-in n (GeneratorBreaker k) h =
+    Memᴰ·append-right (map generator (below n)) (Memᴰ·append-left (map busBreaker (below n)) (kind-in GeneratorBreaker n k (h .0) (h .1)))
+parts-in n (BusBreaker k) h =
+    Memᴰ·append-right (map generator (below n)) (Memᴰ·append-right (map generatorBreaker (below n)) (kind-in BusBreaker n k (h .0) (h .1)))
 
 kind-at : (kind : ℕ → Part) → ((k : ℕ) → number (kind k) ≡ k) → (n : ℕ) (p : Part) → p ∈ map (λ i. kind (suc i)) (below n) → InRing n p
 kind-at kind e n p m =
@@ -75,7 +78,8 @@ parts-at n p m = go (List·Memᴰ·append-cases (map generator (below n)) m)
     go (inr x) = breakers (List·Memᴰ·append-cases (map generatorBreaker (below n)) x)
 
 -- what holds of every part of a ring of i, and of the three parts at place i, holds of every part of a ring of i + 1
-pub ring-more : (P : Part → Type 0) (i : ℕ) → ((p : Part) → InRing i p → P p) → P (generator i) → P (generatorBreaker i) → P (busBreaker i) → (p : Part)
+pub ring-more : (P : Part → Type 0) (i : ℕ) → ((p : Part) → InRing i p → P p) → P (generator i) → P (generatorBreaker i) → P (busBreaker i)
+    → (p : Part)
     → InRing (i + 1) p → P p
 ring-more P i h a b c = go
   where
@@ -125,10 +129,12 @@ pub parts-rise : (n : ℕ) → n ≤ largest → RisingBy partCode (parts n)
 unfolding parts partCode
 parts-rise n h =
     rising-append (each Generator (λ i j l. omega arith))
-    (rising-append (each GeneratorBreaker (λ i j l. omega arith)) (each BusBreaker (λ i j l. omega arith)) (λ x y m k. apart GeneratorBreaker BusBreaker x y m k (λ i j l. omega arith)))
+    (rising-append (each GeneratorBreaker (λ i j l. omega arith)) (each BusBreaker (λ i j l. omega arith))
+    (λ x y m k. apart GeneratorBreaker BusBreaker x y m k (λ i j l. omega arith)))
     (λ x y m k. beyond x y m (List·Memᴰ·append-cases (map generatorBreaker (below n)) k))
   where
-    each : (kind : ℕ → Part) → ((i j : ℕ) → i < j → partCode (kind (suc i)) < partCode (kind (suc j))) → RisingBy partCode (map (λ i. kind (suc i)) (below n))
+    each : (kind : ℕ → Part) → ((i j : ℕ) → i < j → partCode (kind (suc i)) < partCode (kind (suc j)))
+        → RisingBy partCode (map (λ i. kind (suc i)) (below n))
     each kind f = rising-map partCode (λ i. kind (suc i)) (rising-mono f (rising-below n))
 
     apart : (a b : ℕ → Part) (x y : Part) → x ∈ map (λ i. a (suc i)) (below n) → y ∈ map (λ i. b (suc i)) (below n)
@@ -138,7 +144,8 @@ parts-rise n h =
         let t = map-at (λ i. b (suc i)) (below n) k in
         rw (s .2, t .2) (f (s .0) (t .0) (omega (arith, below-lt n (s .0) (s .1))))
 
-    beyond : (x y : Part) → x ∈ map generator (below n) → (y ∈ map generatorBreaker (below n)) ⊎ (y ∈ map busBreaker (below n)) → partCode x < partCode y
+    beyond : (x y : Part) → x ∈ map generator (below n) → (y ∈ map generatorBreaker (below n)) ⊎ (y ∈ map busBreaker (below n))
+        → partCode x < partCode y
     beyond x y m (inl k) = apart Generator GeneratorBreaker x y m k (λ i j l. omega arith)
     beyond x y m (inr k) = apart Generator BusBreaker x y m k (λ i j l. omega arith)
 
@@ -155,14 +162,16 @@ module _ {A : Type 0} (f : ℕ → A) where
 
   -- an array that holds f at each place
   pub is-places : (l : List A) (d : A) → length l ≡ largest → ((i : ℕ) → i < largest → getD l i d ≡ f i) → l ≡ places f
-  is-places l d e h = ext-getD d l (places f) (e ∙ sym places-length) (λ i b. h i (omega (arith, e)) ∙ sym (places-at i d (omega (arith, e))))
+  is-places l d e h =
+      ext-getD d l (places f) (e ∙ sym places-length) (λ i b. h i (omega (arith, e)) ∙ sym (places-at i d (omega (arith, e))))
 
 pub places-ext : {A : Type 0} (f g : ℕ → A) → ((i : ℕ) → i < largest → f i ≡ g i) → places f ≡ places g
 places-ext f g h = is-places g (places f) (f 0) (places-length f) (λ i l. places-at f i (f 0) l ∙ h i l)
 
 -- a store at place k makes the array that holds g of one that holds g at every other place
 pub places-set : {A : Type 0} (f g : ℕ → A) (k : ℕ) → ((i : ℕ) → i ≢ k → f i ≡ g i) → set (places f) k (g k) ≡ places g
-places-set f g k h = is-places g (set (places f) k (g k)) (g k) (length-set (places f) k (g k) ∙ places-length f) (λ i l. at i l (dec-eq i k))
+places-set f g k h =
+    is-places g (set (places f) k (g k)) (g k) (length-set (places f) k (g k) ∙ places-length f) (λ i l. at i l (dec-eq i k))
   where
     at : (i : ℕ) → i < largest → (i ≡ k) ⊎ (i ≢ k) → getD (set (places f) k (g k)) i (g k) ≡ g i
     at i l (inl e) = rw e (getD-set-same (places f) k (g k) (g k) (omega (arith, places-length f)))
@@ -183,7 +192,9 @@ module _ {A : Type 0} (d : A) (f : ℕ → A) where
   filledTo i = places (λ j. cond (ltb j i) (f j) d)
 
   pub filled-none : replicate largest d ≡ filledTo 0
-  filled-none = is-places _ (replicate largest d) d (length-replicate largest d) (λ j h. getD-replicate largest j d d h ∙ sym (rw (le-ltb j 0 (omega arith))))
+  filled-none =
+      is-places _ (replicate largest d) d (length-replicate largest d)
+      (λ j h. getD-replicate largest j d d h ∙ sym (rw (le-ltb j 0 (omega arith))))
 
   pub filled-more : (i : ℕ) → set (filledTo i) i (f i) ≡ filledTo (i + 1)
   filled-more i = rw (below-last (f i) d i) at (places-set _ (λ j. cond (ltb j (i + 1)) (f j) d) i (λ j ne. below-other (f j) d j i ne))
@@ -196,7 +207,8 @@ pub places-of : {A : Type 0} (l : List A) (d : A) → length l ≡ largest → l
 places-of l d e = is-places (λ i. getD l i d) l d e (λ i h. refl)
 
 -- what stands at a number of the array
-at-places : {A : Type 0} (f : ℕ → A) (d : A) (k : ℕ) → 0 < k → k ≤ largest → (g : ℕ → A) → ((i : ℕ) → g (suc i) ≡ f i) → atNumber d (places f) k ≡ g k
+at-places : {A : Type 0} (f : ℕ → A) (d : A) (k : ℕ) → 0 < k → k ≤ largest → (g : ℕ → A) → ((i : ℕ) → g (suc i) ≡ f i)
+    → atNumber d (places f) k ≡ g k
 at-places f d zero l h g e = absurd (omega arith)
 at-places f d (suc i) l h g e = places-at f i d (omega arith) ∙ sym (e i)
 
@@ -210,7 +222,8 @@ health-places H (BusBreaker k) h = at-places (λ i. H (busBreaker i)) 0 k (h .0)
 pub command-places : (C : PartCommands) (p : Part) → InRing largest p → commandsOf (commandPlaces C) p ≡ C p
 unfolding commandsOf commandPlaces
 command-places C (Generator k) h = at-places (λ i. C (generator i)) false k (h .0) (h .1) (λ j. C (Generator j)) (λ i. refl)
-command-places C (GeneratorBreaker k) h = at-places (λ i. C (generatorBreaker i)) false k (h .0) (h .1) (λ j. C (GeneratorBreaker j)) (λ i. refl)
+command-places C (GeneratorBreaker k) h =
+    at-places (λ i. C (generatorBreaker i)) false k (h .0) (h .1) (λ j. C (GeneratorBreaker j)) (λ i. refl)
 command-places C (BusBreaker k) h = at-places (λ i. C (busBreaker i)) false k (h .0) (h .1) (λ j. C (BusBreaker j)) (λ i. refl)
 
 -- the arrays of a health have 20 places
@@ -230,4 +243,5 @@ health-held h s = λ i. record {
 
 pub places-held : (H : PartHealth) → healthPlaces (healthOf (healthPlaces H)) ≡ healthPlaces H
 unfolding healthPlaces
-places-held H = sym (health-held (healthPlaces H) (record { generators = places-length _; generator-breakers = places-length _; bus-breakers = places-length _ }))
+places-held H =
+    sym (health-held (healthPlaces H) (record { generators = places-length _; generator-breakers = places-length _; bus-breakers = places-length _ }))

@@ -27,8 +27,10 @@ in-least n p h r = (r .0, omega (arith, r .1))
 pub named-code : (n : ℕ) (p : Part) → n ≤ largest → InRing n p → partNamed n (partCode p) ≡ some p
 unfolding partNamed
 named-code n p h r =
-    first-only (λ q. eqb (partCode q) (partCode p)) p (parts-in (min n largest) p (in-least n p h r)) (eq-eqb (partCode p) (partCode p) refl)
-    (λ q m e. code-only (min n largest) q p (omega arith) (parts-at (min n largest) q m) (in-least n p h r) (eqb-true (partCode q) (partCode p) e))
+    first-only (λ q. eqb (partCode q) (partCode p)) p (parts-in (min n largest) p (in-least n p h r))
+    (eq-eqb (partCode p) (partCode p) refl)
+    (λ q m e. code-only (min n largest) q p (omega arith) (parts-at (min n largest) q m) (in-least n p h r)
+    (eqb-true (partCode q) (partCode p) e))
 
 -- a code names a part of the ring that has it
 pub code-named : (n c : ℕ) (p : Part) → partNamed n c ≡ some p → InRing n p × (partCode p ≡ c)

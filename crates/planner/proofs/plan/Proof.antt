@@ -10,10 +10,32 @@ use Rattle.planner.proofs.plan.Statement.{statement}
 use Rattle.planner.proofs.plan.Tie as tie
 
 abbrev Inv-loop : tie.InvT-loop
-Inv-loop n health size usable choices₀ progress₀ b₀ choices progress b = (b ≤ n) × (progress ≡ served n (healthOf health) b) × (choices ≡ choicesTo n (healthOf health) b)
+Inv-loop n health size usable choices₀ progress₀ b₀ choices progress b =
+    (b ≤ n) × (progress ≡ served n (healthOf health) b) × (choices ≡ choicesTo n (healthOf health) b)
 
 abbrev μ-loop : tie.MeasureT-loop
 μ-loop n health size usable choices₀ progress₀ b₀ choices progress b = n - b
+
+usable-generators-requires : tie.Need-usable-generators-requires Inv-loop μ-loop
+usable-generators-requires c κs = search auto
+
+loop-holds : tie.Need-loop-holds Inv-loop μ-loop
+loop-holds c = (search auto, served-none _ _, choices-none _ _)
+
+serve-requires : tie.Need-serve-requires Inv-loop μ-loop
+serve-requires c κs = search auto
+
+mul-choices : tie.Need-mul-choices Inv-loop μ-loop
+mul-choices c = search auto
+
+array-set-from-choices : tie.Need-array-set-from-choices Inv-loop μ-loop
+array-set-from-choices c = search auto
+
+add-b : tie.Need-add-b Inv-loop μ-loop
+add-b c = search auto
+
+loop-less : tie.Need-loop-less Inv-loop μ-loop
+loop-less c = search auto
 
 loop-again : tie.Need-loop-again Inv-loop μ-loop
 loop-again c =
@@ -35,5 +57,15 @@ returns c =
 pub plan-spec : {M : Type 1} → statement M
 plan-spec =
     tie.close
-    (tie.spec Inv-loop μ-loop (λ c κs. search auto) (λ c. (search auto, served-none _ _, choices-none _ _)) (λ c κs. search auto) (λ c. search auto)
-    (λ c. search auto) (λ c. search auto) (λ c. search auto) loop-again returns)
+    (tie.spec
+    Inv-loop
+    μ-loop
+    usable-generators-requires
+    loop-holds
+    serve-requires
+    mul-choices
+    array-set-from-choices
+    add-b
+    loop-less
+    loop-again
+    returns)

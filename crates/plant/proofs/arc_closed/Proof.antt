@@ -8,7 +8,7 @@ use borrow.Author.Tests.{not-true, not-false}
 use Rattle.model.specs.Lists.{allOf}
 use Rattle.model.specs.Plant.{busBreakerClosed, up, arc}
 use Rattle.model.specs.Reports.{healthOf, commandsOf}
-use Rattle.theory.specs.Geometry.{next-lt, up-next}
+use Rattle.theory.specs.Proofs.Geometry.{next-lt, up-next}
 use Rattle.plant.specs.Walk.{walk-stop, walk-on, walk-end}
 use Rattle.plant.proofs.arc_closed.Statement.{statement}
 use Rattle.plant.proofs.arc_closed.Tie as tie
@@ -26,7 +26,8 @@ unfolding healthOf commandsOf
 returns c =
     let l = c .before .before .before .before in
     let i = l .before .loop .inv in
-    sym (i .1 ∙ walk-stop _ _ _ _ (i .0) (search needs) (l .loop-test .taken) (sym (c .before .is-closed .ensures) ∙ not-true _ (c .if1 .taken)))
+    sym (i .1 ∙ walk-stop _ _ _ _ (i .0) (search needs) (l .loop-test .taken)
+    (sym (c .before .is-closed .ensures) ∙ not-true _ (c .if1 .taken)))
 
 loop-less : tie.Need-loop-less Inv-loop μ-loop
 loop-less c =
@@ -39,8 +40,11 @@ unfolding healthOf commandsOf
 loop-again c =
     let l = c .before .before .before .before .before in
     let i = l .before .loop .inv in
-    rw (c .next .ensures)
-    (next-lt _ _ (i .0), i .1 ∙ walk-on _ _ _ _ (i .0) (search needs) (l .loop-test .taken) (sym (c .before .before .is-closed .ensures) ∙ not-false _ (c .before .if1 .left)))
+    rw (c .next .ensures) (
+      next-lt _ _ (i .0),
+      i .1 ∙ walk-on _ _ _ _ (i .0) (search needs) (l .loop-test .taken)
+          (sym (c .before .before .is-closed .ensures) ∙ not-false _ (c .before .if1 .left)),
+    )
 
 pub arc-closed-spec : {M : Type 1} → statement M
 arc-closed-spec =

@@ -1,24 +1,84 @@
 -- `reports::check_file` meets its contract: the tests that lead to each return are those of the file's refusal.
-use mathlib.Core.Logic.{⊎-elim, inl, inr}
+use mathlib.Core.Path.{_≡_, sym, _∙_}
 use native.Mathlib.Omega.{arith}
 use borrow.Author.Needs.{needs}
-use borrow.Author.Tests.{ltb-true, ltb-false}
 use Rattle.reports.specs.File.{file-short, file-size, file-count, file-length, file-served, file-refused}
 use Rattle.reports.proofs.check_file.Statement.{statement}
 use Rattle.reports.proofs.check_file.Tie as tie
 
+-- 1
+short : tie.Need-returns
+short c = file-short _ (omega arith)
+
+-- 2
+size : tie.Need-returns-2
+size c = file-size _ (omega arith) (sym (c .before .size-outside .ensures) ∙ c .if2 .taken)
+
+cast-m : tie.Need-cast-m
+cast-m c = omega (arith, c .shared-slice-known3 .given 1)
+
+cast-m-2 : tie.Need-cast-m-2
+cast-m-2 c = omega (arith, c .shared-slice-known4 .given 2)
+
+mul-m : tie.Need-mul-m
+mul-m c = omega (arith, c .shared-slice-known4 .given 2)
+
+add-m : tie.Need-add-m
+add-m c = omega (arith, c .shared-slice-known4 .given 1, c .shared-slice-known4 .given 2)
+
+-- 3
+count : tie.Need-returns-3
+count c =
+    let d = c .before .before .before in
+    file-count _ (omega arith, sym (d .before .size-outside .ensures) ∙ d .if2 .left) (omega arith)
+
+-- 4
+length : tie.Need-returns-4
+length c =
+    let d = c .before .before .before .before in
+    file-length _ (omega arith, sym (d .before .size-outside .ensures) ∙ d .if2 .left) (omega arith) (omega arith)
+
+-- 5, 6, 7
+refused : tie.Need-returns-6
+refused c =
+    let d = c .before .before .before .before .before .before .before .before .before .before in
+    file-refused _ (omega arith, sym (d .before .size-outside .ensures) ∙ d .if2 .left) (omega arith) (omega arith) _
+    (c .before .before .before .check-reports .ensures) _ (c .before .k .given .1)
+
+served : tie.Need-returns-5
+served c =
+    let d = c .before .before .before .before .before .before .before .before .before in
+    file-served _ (omega arith, sym (d .before .size-outside .ensures) ∙ d .if2 .left) (omega arith) (omega arith) _
+    (c .before .before .check-reports .ensures) (c .enum-told .given .1)
+
 pub check-file-spec : {M : Type 1} → statement M
 check-file-spec =
     tie.close
-    (tie.spec (λ c. search file-short) (λ c. search needs)
-    (λ c. file-size _ (search needs) (⊎-elim (λ w. inl (w .taken)) (λ w. inr (omega (arith, ltb-true))) (c .if2 .came)))
-    (λ c. search needs) (λ c. omega (arith, c .shared-slice-known3 .given 1)) (λ c. search needs)
-    (λ c. omega (arith, c .shared-slice-known4 .given 2)) (λ c. omega (arith, c .shared-slice-known4 .given 2))
-    (λ c. omega (arith, c .shared-slice-known4 .given 1, c .shared-slice-known4 .given 2))
-    (λ c. file-count _ (omega (arith, ltb-false)) (search needs)) (λ c. search needs) (λ c. search needs)
-    (λ c. file-length _ (omega (arith, ltb-false)) (search needs) (omega arith)) (λ c. search needs) (λ c. search needs) (λ c. search needs)
-    (λ c. search needs) (λ c. search needs) (λ c. search needs) (λ c. search needs) (λ c. search needs) (λ c κs. search needs) (λ c. search needs)
+    (tie.spec
+    short
     (λ c. search needs)
-    (λ c. file-served _ (omega (arith, ltb-false)) (search needs) (omega arith) _ (c .before .before .check-reports .ensures) (c .enum-told .given .1))
-    (λ c. file-refused _ (omega (arith, ltb-false)) (search needs) (omega arith) _ (c .before .before .before .check-reports .ensures) _
-    (c .before .k .given .1)))
+    (λ c κs. search needs)
+    size
+    (λ c. search needs)
+    cast-m
+    (λ c. search needs)
+    cast-m-2
+    mul-m
+    add-m
+    count
+    (λ c. search needs)
+    (λ c. search needs)
+    length
+    (λ c. search needs)
+    (λ c. search needs)
+    (λ c. search needs)
+    (λ c. search needs)
+    (λ c. search needs)
+    (λ c. search needs)
+    (λ c. search needs)
+    (λ c. search needs)
+    (λ c κs. search needs)
+    (λ c. search needs)
+    (λ c. search needs)
+    served
+    refused)

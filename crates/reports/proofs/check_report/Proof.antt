@@ -11,6 +11,8 @@ pub check-report-spec : {M : Type 1} → statement M
 unfolding outcomeOf firstMet reportConditions wordConditions
 check-report-spec =
     tie.close
-    (tie.spec (λ c κs. search needs) (λ c κs. search needs)
+    (tie.spec
+    (λ c κs. search needs)
+    (λ c κs. search needs)
     (λ c. outcome-is _ _ (rw (← c .before .not-of-ring .ensures, c .if1 .taken)))
     (λ c. outcome-is _ _ (rw (← c .before .before .not-of-ring .ensures, c .before .if1 .left) (c .check-word .ensures))))

@@ -19,6 +19,17 @@ done c = search (reports-done, needs)
 pub check-reports-spec : {M : Type 1} → statement M
 check-reports-spec =
     tie.close
-    (tie.spec Inv-loop μ-loop (λ c. (refl, search needs)) (λ c κs. search needs) (λ c. search needs) (λ c. search needs)
-    (λ c. search report-refused) (λ c. search needs) (λ c. search report-missing) (λ c. search needs) (λ c. search needs)
-    (λ c. (search report-read, search needs)) done)
+    (tie.spec
+    Inv-loop
+    μ-loop
+    (λ c. (refl, search needs))
+    (λ c κs. search needs)
+    (λ c. search needs)
+    (λ c. search needs)
+    (λ c. search report-refused)
+    (λ c. search needs)
+    (λ c. search report-missing)
+    (λ c. search needs)
+    (λ c. search needs)
+    (λ c. (search report-read, search needs))
+    done)

@@ -10,8 +10,16 @@ pub check-word-spec : {M : Type 1} → statement M
 unfolding outcomeOf firstMet wordOfOtherKind generatorFitAgain wordConditions
 check-word-spec =
     tie.close
-    (tie.spec (λ c. search needs) (λ c. search needs) (λ c. search needs) (λ c. search needs) (λ c. search needs) (λ c. search needs)
-    (λ c κs. search needs) (λ c. search needs) (λ c κs. search needs)
+    (tie.spec
+    (λ c. search needs)
+    (λ c. search needs)
+    (λ c. search needs)
+    (λ c. search needs)
+    (λ c. search needs)
+    (λ c. search needs)
+    (λ c κs. search needs)
+    (λ c. search needs)
+    (λ c κs. search needs)
     (λ c. rw (c .before .before .enum-told .given .1, c .enum-told2 .given .1))
     (λ c. rw (c .before .before .enum-told .given .1, c .enum-told3 .given .1))
     (λ c. rw (c .before .before .enum-told .given .1, c .enum-told4 .given .1))

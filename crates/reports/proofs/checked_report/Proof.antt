@@ -10,6 +10,9 @@ pub checked-report-spec : {M : Type 1} → statement M
 unfolding reportOf
 checked-report-spec =
     tie.close
-    (tie.spec (λ c κs. search needs) (λ c. search needs) (λ c. search needs)
+    (tie.spec
+    (λ c κs. search needs)
+    (λ c. search needs)
+    (λ c. search needs)
     (λ c. when-served _ Refused _ _ (c .before .before .check-report .ensures .0) (c .enum-told .given .1))
     (λ c. when-refused _ Refused _ _ (c .before .before .before .check-report .ensures .0) _ (c .before .k .given .1)))

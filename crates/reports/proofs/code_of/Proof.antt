@@ -10,6 +10,9 @@ pub code-of-spec : {M : Type 1} → statement M
 unfolding partCode
 code-of-spec =
     tie.close
-    (tie.spec (λ c κs. search needs) (λ c κs. search needs) (λ c κs. search needs)
+    (tie.spec
+    (λ c κs. search needs)
+    (λ c κs. search needs)
+    (λ c κs. search needs)
     (λ c. omega (arith, index-less (c .before .part-number .result), first-code-most (c .before .before .before .args .part)))
     (λ c. rw (c .before .before .first-code .ensures, c .index-of .ensures, c .before .part-number .ensures)))

@@ -4,4 +4,12 @@ use Rattle.reports.proofs.first_code.Statement.{statement}
 use Rattle.reports.proofs.first_code.Tie as tie
 
 pub first-code-spec : {M : Type 1} → statement M
-first-code-spec = tie.close (tie.spec (λ c. search needs) (λ c. search needs) (λ c. search needs) (λ c. search needs) (λ c. search needs) (λ c. search needs))
+first-code-spec =
+    tie.close
+    (tie.spec
+    (λ c. search needs)
+    (λ c. search needs)
+    (λ c. search needs)
+    (λ c. search needs)
+    (λ c. search needs)
+    (λ c. search needs))

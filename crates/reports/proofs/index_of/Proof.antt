@@ -8,5 +8,8 @@ use Rattle.reports.proofs.index_of.Tie as tie
 pub index-of-spec : {M : Type 1} → statement M
 index-of-spec =
     tie.close
-    (tie.spec (λ c. search needs) (λ c. search needs) (λ c. omega (arith, index-less (c .before .args .number)))
+    (tie.spec
+    (λ c. search needs)
+    (λ c. search needs)
+    (λ c. omega (arith, index-less (c .before .args .number)))
     (λ c. omega (arith, index-less (c .before .args .number))))

@@ -9,5 +9,7 @@ pub named-in-ring-spec : {M : Type 1} → statement M
 unfolding partAnswer ofRing
 named-in-ring-spec =
     tie.close
-    (tie.spec (λ c κs. search needs) (λ c. rw (← c .before .not-of-ring .ensures, c .if1 .taken))
+    (tie.spec
+    (λ c κs. search needs)
+    (λ c. rw (← c .before .not-of-ring .ensures, c .if1 .taken))
     (λ c. rw (← c .before .not-of-ring .ensures, c .if1 .left)))

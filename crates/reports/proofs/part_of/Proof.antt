@@ -7,7 +7,13 @@ use Rattle.reports.proofs.part_of.Tie as tie
 pub part-of-spec : {M : Type 1} → statement M
 part-of-spec =
     tie.close
-    (tie.spec (λ c. search needs) (λ c κs. search needs) (λ c. search needs) (λ c κs. search needs) (λ c. search needs) (λ c κs. search needs)
+    (tie.spec
+    (λ c. search needs)
+    (λ c κs. search needs)
+    (λ c. search needs)
+    (λ c κs. search needs)
+    (λ c. search needs)
+    (λ c κs. search needs)
     (λ c. part-in-range _ _ _ _ (c .named-in-ring .ensures) (search needs) (search needs))
     (λ c. part-in-range _ _ _ _ (c .named-in-ring2 .ensures) (search needs) (search needs))
     (λ c. part-in-range _ _ _ _ (c .named-in-ring3 .ensures) (search needs) (search needs))

@@ -13,5 +13,7 @@ report-at-spec =
     (tie.spec
     (λ c. report-gives _ _ _ _ _
     (⊎-elim (λ w. past-codes _ _ _ _ (w .taken)) (λ w. past-words _ _ _ _ (leb-true _ _ (w .1 .taken))) (c .if1 .came)))
-    (λ c. search needs) (λ c. search needs) (λ c κs. search needs)
+    (λ c. search needs)
+    (λ c. search needs)
+    (λ c κs. search needs)
     (λ c. report-gives _ _ _ _ _ (c .report-of .ensures ∙ search (within-both, leb-false))))

@@ -8,5 +8,14 @@ use Rattle.reports.proofs.report_of.Tie as tie
 pub report-of-spec : {M : Type 1} → statement M
 report-of-spec =
     tie.close
-    (tie.spec (λ c κs. search needs) (λ c. search needs) (λ c. search needs) (λ c κs. search needs) (λ c. search needs) (λ c. search needs)
-    (λ c κs. search needs) (λ c. search code-refused) (λ c. search word-refused) (λ c. c .checked-report .ensures ∙ search both-named))
+    (tie.spec
+    (λ c κs. search needs)
+    (λ c. search needs)
+    (λ c. search needs)
+    (λ c κs. search needs)
+    (λ c. search needs)
+    (λ c. search needs)
+    (λ c κs. search needs)
+    (λ c. search code-refused)
+    (λ c. search word-refused)
+    (λ c. c .checked-report .ensures ∙ search both-named))

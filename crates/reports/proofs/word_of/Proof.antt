@@ -8,5 +8,9 @@ use Rattle.reports.proofs.word_of.Tie as tie
 pub word-of-spec : {M : Type 1} → statement M
 word-of-spec =
     tie.close
-    (tie.spec (λ c. word-of-number _ Fit (c .match .keys1)) (λ c. word-of-number _ StuckOff (c .match .keys2))
-    (λ c. word-of-number _ StuckOpen (c .match .keys3)) (λ c. word-of-number _ StuckClosed (c .match .keys4)) (λ c. word-above _ (omega arith)))
+    (tie.spec
+    (λ c. word-of-number _ Fit (c .match .keys1))
+    (λ c. word-of-number _ StuckOff (c .match .keys2))
+    (λ c. word-of-number _ StuckOpen (c .match .keys3))
+    (λ c. word-of-number _ StuckClosed (c .match .keys4))
+    (λ c. word-above _ (omega arith)))

@@ -1,14 +1,12 @@
 -- Safe and ending: the cursor is one of the file's run while more is left, and each piece brings the end nearer.
-use mathlib.Core.Path.{_≡_, refl, sym, _∙_, ap}
+use mathlib.Core.Path.{_≡_, refl, sym, _∙_}
 use mathlib.Core.Bool.{true}
-use mathlib.Core.List.{List, _++_}
-use Prim.Native.Nat.{ℕ, _≤_, _<_}
-use native.Mathlib.Omega.{arith}
-use lib.ListN.{length, take, length-append}
+use lib.ListN.{length}
 use lib.Seq.{length-take-le}
 use borrow.Author.Needs.{needs}
 use borrow.Author.Tests.{ltb-true}
 use Rattle.model.specs.Text.{runLeft, Within}
+use Rattle.text.specs.Lines.{left-shorter}
 use Rattle.ringctl.proofs.print_run.Statement.{statement}
 use Rattle.ringctl.proofs.print_run.Tie as tie
 
@@ -17,10 +15,6 @@ Inv-loop file out₀ cursor₀ more₀ out cursor more = (more ≡ true → With
 
 abbrev μ-loop : tie.MeasureT-loop
 μ-loop file out₀ cursor₀ more₀ out cursor more = length (runLeft file (cursor .place))
-
--- what is left behind a piece is shorter
-shorter : {left : List ℕ} (out rest : List ℕ) (k : ℕ) → left ≡ take k out ++ rest → 0 < k → k ≤ length out → length rest < length left
-shorter out rest k e p h = omega (arith, ap length e, length-append (take k out) rest, length-take-le k out h)
 
 loop-holds : tie.Need-loop-holds Inv-loop μ-loop
 loop-holds c = (λ e. c .begin .ensures .1 _ .0, refl)
@@ -37,7 +31,7 @@ write-slice c = sym (length-take-le _ _ (c .before .before .before .fill .ensure
 loop-less : tie.Need-loop-less Inv-loop μ-loop
 loop-less c =
     let e = c .before .before .before .before .before .before .fill .ensures in
-    shorter _ _ _ (e .0) (e .1 .1 .0 .0) (e .1 .1 .0 .1)
+    left-shorter _ _ _ (e .0) (e .1 .1 .0 .0) (e .1 .1 .0 .1)
 
 loop-again : tie.Need-loop-again Inv-loop μ-loop
 loop-again c =

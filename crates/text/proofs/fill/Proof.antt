@@ -26,15 +26,18 @@ fits d = stored-fits (d .loop .inv .0 .stored)
 
 next-line-requires : tie.Need-next-line-requires Inv-loop μ-loop
 next-line-requires c κs =
-    let d = c .before .before .before in
-    (filling-within (d .loop .inv .0) (c .before .before .loop-test .taken), simp (length-take, length-drop) (omega (arith, leb-true, fits d)))
+    let d = c .before .before .before in (
+      filling-within (d .loop .inv .0) (c .before .before .loop-test .taken),
+      simp (length-take, length-drop)
+          (omega (arith, leb-true, fits d)),
+    )
 
 add-length : tie.Need-add-length Inv-loop μ-loop
 add-length c =
     let d = c .before .before .before .before .before .before .before .before in
     let start = d .before .before .before in
     let taken = c .before .before .before .before .before .before .before .loop-test .taken in
-    let more = filling-more (d .loop .inv .0) taken (c .before .before .before .before .next-line .ensures) in
+    let more = filling-more _ (d .loop .inv .0) taken (c .before .before .before .before .next-line .ensures) refl in
     search (needs, start .good, stored-fits (more .stored))
 
 loop-less : tie.Need-loop-less Inv-loop μ-loop
@@ -46,8 +49,8 @@ loop-less c =
 loop-again : tie.Need-loop-again Inv-loop μ-loop
 loop-again c =
     let d = c .before .before .before .before .before .before .before .before in
-    (filling-more (d .loop .inv .0) (c .before .before .before .before .before .before .before .loop-test .taken)
-    (c .before .before .before .before .next-line .ensures), search needs)
+    let taken = c .before .before .before .before .before .before .before .loop-test .taken in
+    (filling-more _ (d .loop .inv .0) taken (c .before .before .before .before .next-line .ensures) (omega arith), search needs)
 
 returns : tie.Need-returns Inv-loop μ-loop
 returns c =

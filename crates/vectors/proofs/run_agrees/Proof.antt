@@ -1,40 +1,63 @@
--- Safe: a served file has the length that its count says.
-use mathlib.Core.Path.{sym, _∙_}
-use native.Mathlib.Omega.{arith}
+-- Safe and ending: the cursor is one of the file's run while more is left, and each piece brings the end nearer.
+use mathlib.Core.Path.{_≡_, refl, sym, _∙_}
+use mathlib.Core.Bool.{true}
+use lib.ListN.{length}
+use lib.Seq.{length-take-le}
 use borrow.Author.Needs.{needs}
-use Rattle.text.specs.Whole.{file-served}
+use borrow.Author.Tests.{ltb-true}
+use Rattle.model.specs.Text.{runLeft, Within}
+use Rattle.text.specs.Lines.{left-shorter}
 use Rattle.vectors.proofs.run_agrees.Statement.{statement}
 use Rattle.vectors.proofs.run_agrees.Tie as tie
 
-add-served-agrees : tie.Need-add-served-agrees
-add-served-agrees c = let f = file-served _ _ _ (sym (c .before .before .before .check-file .ensures .0) ∙ c .before .n .given .1) in search (needs, f .2)
+abbrev Inv-loop : tie.InvT-loop
+Inv-loop stored file out₀ expected₀ cursor₀ more₀ same₀ out expected cursor more same =
+    (more ≡ true → Within file cursor) × (length out ≡ length out₀) × (length expected ≡ length expected₀)
 
-part-served-agrees-end : tie.Need-part-served-agrees-end
-part-served-agrees-end c = let f = file-served _ _ _ (sym (c .before .before .before .check-file .ensures .0) ∙ c .before .n .given .1) in omega (arith, f .3)
+abbrev μ-loop : tie.MeasureT-loop
+μ-loop stored file out₀ expected₀ cursor₀ more₀ same₀ out expected cursor more same = length (runLeft file (cursor .place))
 
-add-served-agrees-2 : tie.Need-add-served-agrees-2
-add-served-agrees-2 c =
-    let f = file-served _ _ _ (sym (c .before .before .before .before .check-file .ensures .0) ∙ c .before .before .n .given .1) in
-    search (needs, f .2)
+loop-holds : tie.Need-loop-holds Inv-loop μ-loop
+loop-holds c = (λ e. c .begin .ensures .1 _ .0, refl, refl)
 
-sub-served-agrees-2 : tie.Need-sub-served-agrees-2
-sub-served-agrees-2 c =
-    let f = file-served _ _ _ (sym (c .before .before .before .before .check-file .ensures .0) ∙ c .before .before .n .given .1) in
-    omega (arith, f .3)
+fill-requires : tie.Need-fill-requires Inv-loop μ-loop
+fill-requires c κs = let d = c .before .before in (d .loop .inv .0 (c .before .loop-test .taken), search needs)
 
-part-served-agrees-start-2 : tie.Need-part-served-agrees-start-2
-part-served-agrees-start-2 c =
-    let f = file-served _ _ _ (sym (c .before .before .before .before .check-file .ensures .0) ∙ c .before .before .n .given .1) in
-    omega (arith, f .3)
+next-prefix : tie.Need-slice-reshare-prefix-next-is Inv-loop μ-loop
+next-prefix c = c .before .before .fill .ensures .1 .1 .0 .1
 
-served-agrees-requires : tie.Need-served-agrees-requires
-served-agrees-requires c κs =
-    let f = file-served _ _ _ (sym (c .before .before .before .before .before .check-file .ensures .0) ∙ c .before .before .before .n .given .1) in
-    search (needs, f .0, f .1, f .2, f .3)
+next-slice : tie.Need-slice-aggregate-next-is Inv-loop μ-loop
+next-slice c = sym (length-take-le _ _ (c .before .before .before .fill .ensures .1 .1 .0 .1))
+
+next-is-requires : tie.Need-next-is-requires Inv-loop μ-loop
+next-is-requires c κs =
+    let fits = c .before .before .before .before .fill .ensures .1 .1 .0 .1 in
+    rw (length-take-le _ _ fits) (search (needs, fits))
+
+loop-less : tie.Need-loop-less Inv-loop μ-loop
+loop-less c =
+    let e = c .before .before .before .before .before .before .before .before .fill .ensures in
+    left-shorter _ _ _ (e .0) (e .1 .1 .0 .0) (e .1 .1 .0 .1)
+
+loop-again : tie.Need-loop-again Inv-loop μ-loop
+loop-again c =
+    let e = c .before .before .before .before .before .before .before .before .fill .ensures in
+    (λ m. record { cursor = e .1 .1 .1 .0; more = ltb-true _ _ (sym (e .1 .1 .1 .1) ∙ m) }, search needs, search needs)
 
 pub run-agrees-spec : {M : Type 1} → statement M
 run-agrees-spec =
     tie.close
-    (tie.spec (λ c κs. search needs) (λ c. search needs) (λ c κs. search needs) (λ c. search needs) add-served-agrees (λ c. search needs) (λ c. search needs)
-    part-served-agrees-end add-served-agrees-2 sub-served-agrees-2 part-served-agrees-start-2 (λ c. search needs) served-agrees-requires (λ c. search needs)
+    (tie.spec
+    Inv-loop
+    μ-loop
+    (λ c κs. search needs)
+    loop-holds
+    fill-requires
+    next-prefix
+    next-slice
+    next-is-requires
+    loop-less
+    loop-again
+    (λ c. search needs)
+    (λ c. search needs)
     (λ c. search needs))

@@ -7,6 +7,15 @@ use Rattle.planner.proofs.progress.serve.Tie as tie
 search-requires : tie.Need-search-requires
 search-requires c κs = search auto
 
+enum-told : tie.Need-enum-told
+enum-told c = search auto
+
+darken-requires : tie.Need-darken-requires
+darken-requires c κs = search auto
+
+enum-known-g : tie.Need-enum-known-g
+enum-known-g c = search auto
+
 take-requires : tie.Need-take-requires
 take-requires c κs =
     let d = c .before .before .before in
@@ -37,9 +46,9 @@ serve-spec =
     tie.close
     (tie.spec
     search-requires
-    (λ c. search auto)
-    (λ c κs. search auto)
-    (λ c. search auto)
+    enum-told
+    darken-requires
+    enum-known-g
     take-requires
     returns
     returns-2)

@@ -11,7 +11,8 @@ path-count-requires c κs = search auto
 returns : tie.Need-returns
 returns c =
     let a = c .before .before .args in
-    tried-none (a .n) (a .usable .now) (a .breakers .now) (a .owners .now) (a .b) (a .g) (a .p) (omega (arith, c .before .path-count .ensures))
+    tried-none (a .n) (a .usable .now) (a .breakers .now) (a .owners .now) (a .b) (a .g) (a .p)
+    (omega (arith, c .before .path-count .ensures))
 
 candidate-requires : tie.Need-candidate-requires
 candidate-requires c κs = search auto

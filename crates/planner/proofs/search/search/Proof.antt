@@ -1,4 +1,5 @@
--- `planner::search::search` meets its contract. Both loops' invariants: nothing is found yet, and the whole search is the search of what is left.
+-- `planner::search::search` meets its contract. Both loops' invariants: nothing is found yet, and the whole search is the search of what
+-- is left.
 use Rattle.planner.proofs.Auto.{auto}
 use Rattle.planner.proofs.search.search.Statement.{statement}
 use Rattle.planner.proofs.search.search.Tie as tie
@@ -42,7 +43,8 @@ loop-again : tie.Need-loop-again Inv-loop μ-loop Inv-sources μ-sources
 loop-again c =
     let d = c .before .before in
     let q = d .before .before in
-    left-miss (q .before .before .sources .r) (q .loop .p) (d .source .ensures .0) (c .before .permitted .ensures) (c .if1 .left) (q .loop .inv)
+    left-miss (q .before .before .sources .r) (q .loop .p) (d .source .ensures .0) (c .before .permitted .ensures) (c .if1 .left)
+    (q .loop .inv)
 
 add-r : tie.Need-add-r Inv-loop μ-loop Inv-sources μ-sources
 add-r c = search auto
@@ -60,7 +62,8 @@ returns-2 : tie.Need-returns-2 Inv-loop μ-loop Inv-sources μ-sources
 returns-2 c =
     let d = c .before .before .before in
     let q = d .before .before in
-    left-hit (q .before .before .sources .r) (q .loop .p) (d .source .ensures .0) (c .before .before .permitted .ensures) (c .before .if1 .taken)
+    left-hit (q .before .before .sources .r) (q .loop .p) (d .source .ensures .0) (c .before .before .permitted .ensures)
+    (c .before .if1 .taken)
     (c .rises .ensures) (q .loop .inv)
 
 pub search-spec : {M : Type 1} → statement M

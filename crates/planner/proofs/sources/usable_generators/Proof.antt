@@ -19,6 +19,27 @@ Inv-loop generators generator-breakers usable₀ g₀ usable g =
 abbrev μ-loop : tie.MeasureT-loop
 μ-loop generators generator-breakers usable₀ g₀ usable g = 20 - g
 
+loop-holds : tie.Need-loop-holds Inv-loop μ-loop
+loop-holds c = (filled-none false _, search auto)
+
+array-read-may-feed : tie.Need-array-read-may-feed Inv-loop μ-loop
+array-read-may-feed c = search auto
+
+array-read-may-feed-2 : tie.Need-array-read-may-feed-2 Inv-loop μ-loop
+array-read-may-feed-2 c = search auto
+
+may-feed-requires : tie.Need-may-feed-requires Inv-loop μ-loop
+may-feed-requires c κs = search auto
+
+array-write-usable : tie.Need-array-write-usable Inv-loop μ-loop
+array-write-usable c = search auto
+
+add-g : tie.Need-add-g Inv-loop μ-loop
+add-g c = search auto
+
+loop-less : tie.Need-loop-less Inv-loop μ-loop
+loop-less c = search auto
+
 loop-again : tie.Need-loop-again Inv-loop μ-loop
 loop-again c = let l = c .before .before .loop in (rw (l .inv .0, c .may-feed .ensures) (filled-more false _ (l .g)), search auto)
 
@@ -29,5 +50,15 @@ returns c = let l = c .before .loop in rw (le-antisymm (l .inv .1) (c .loop-test
 pub usable-generators-spec : {M : Type 1} → statement M
 usable-generators-spec =
     tie.close
-    (tie.spec Inv-loop μ-loop (λ c. (filled-none false _, search auto)) (λ c. search auto) (λ c. search auto) (λ c κs. search auto) (λ c. search auto)
-    (λ c. search auto) (λ c. search auto) loop-again returns)
+    (tie.spec
+    Inv-loop
+    μ-loop
+    loop-holds
+    array-read-may-feed
+    array-read-may-feed-2
+    may-feed-requires
+    array-write-usable
+    add-g
+    loop-less
+    loop-again
+    returns)

@@ -50,7 +50,8 @@ loop-again c =
     let a = q .before .before .args in
     rw (c .bus-beside .ensures, d .breaker-beside .ensures) (
       bus-lt (a .n) (a .rising) (q .loop .k) (q .loop .inv .0),
-      q .loop .inv .1 ∙ outward-step true (a .n) (q .loop .k) (a .steps) (q .loop .done) (q .loop .c) (a .rising) (d .before .loop-test .taken),
+      q .loop .inv .1 ∙ outward-step true (a .n) (q .loop .k) (a .steps) (q .loop .done) (q .loop .c) (a .rising)
+          (d .before .loop-test .taken),
       length-set (q .loop .c) _ true ∙ q .loop .inv .2,
     )
 

@@ -3,5 +3,11 @@ use Rattle.planner.proofs.Auto.{auto}
 use Rattle.planner.proofs.walk.free.Statement.{statement}
 use Rattle.planner.proofs.walk.free.Tie as tie
 
+returns : tie.Need-returns
+returns c = search auto
+
+returns-2 : tie.Need-returns-2
+returns-2 c = search auto
+
 pub free-spec : {M : Type 1} → statement M
-free-spec = tie.close (tie.spec (λ c. search auto) (λ c. search auto))
+free-spec = tie.close (tie.spec returns returns-2)

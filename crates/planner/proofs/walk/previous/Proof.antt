@@ -4,6 +4,19 @@ use Rattle.planner.proofs.walk.previous.Statement.{statement}
 use Rattle.planner.proofs.walk.previous.Tie as tie
 use Rattle.planner.specs.Walk.{previous}
 
-pub previous-spec : {M : Type 1} → statement M
+sub-result : tie.Need-sub-result
+sub-result c = search auto
+
+sub-result-2 : tie.Need-sub-result-2
+sub-result-2 c = search auto
+
+returns : tie.Need-returns
 unfolding previous
-previous-spec = tie.close (tie.spec (λ c. search auto) (λ c. search auto) (λ c. search auto) (λ c. search auto))
+returns c = search auto
+
+returns-2 : tie.Need-returns-2
+unfolding previous
+returns-2 c = search auto
+
+pub previous-spec : {M : Type 1} → statement M
+previous-spec = tie.close (tie.spec sub-result sub-result-2 returns returns-2)

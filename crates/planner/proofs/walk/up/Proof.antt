@@ -4,6 +4,19 @@ use Rattle.planner.proofs.walk.up.Statement.{statement}
 use Rattle.planner.proofs.walk.up.Tie as tie
 use Rattle.model.specs.Plant.{up}
 
-pub up-spec : {M : Type 1} → statement M
+add-result : tie.Need-add-result
+add-result c = search auto
+
+sub-result : tie.Need-sub-result
+sub-result c = search auto
+
+returns : tie.Need-returns
 unfolding up
-up-spec = tie.close (tie.spec (λ c. search auto) (λ c. search auto) (λ c. search auto) (λ c. search auto))
+returns c = search auto
+
+returns-2 : tie.Need-returns-2
+unfolding up
+returns-2 c = search auto
+
+pub up-spec : {M : Type 1} → statement M
+up-spec = tie.close (tie.spec add-result sub-result returns returns-2)

@@ -1,0 +1,7 @@
+-- What only carries proofs.
+pub mod Geometry
+pub mod Paths
+pub mod Choosing
+pub mod Operations
+pub mod Steady
+pub mod Answering

@@ -1,0 +1,479 @@
+-- No wrong controller meets the demands: of each, the claim that it fails and the calls that show it. Every claim of demands 2 and 3
+-- has its wrong controller; the right one fails no claim, whatever the calls.
+use mathlib.Core.Path.{_≡_, refl}
+use mathlib.Core.Bool.{Bool, true, false, not, _&&_, cond}
+use mathlib.Core.List.{List, [], _∷_, _++_, map, flatMap, Permᴰ·refl}
+use mathlib.Core.Option.{none, some}
+use Prim.Native.Nat.{ℕ}
+use native.Mathlib.Omega.{arith}
+use lib.Dec.{eqb}
+use lib.ListN.{take, drop, set, replicate}
+use Rattle.model.specs.declared.Part.{Part}
+use Rattle.model.specs.declared.Part.the-variants.{Generator, BusBreaker}
+use Rattle.model.specs.declared.Word.{Word}
+use Rattle.model.specs.declared.Word.the-variants.{Fit, StuckOff, StuckOpen, StuckClosed}
+use Rattle.model.specs.declared.Report.{Report}
+use Rattle.model.specs.declared.Ring.{Ring}
+use Rattle.model.specs.declared.Feed.the-variants as feed
+use Rattle.model.specs.Lists.{allOf, _∈_, below, keep, first, anyOf}
+use Rattle.model.specs.Plant.{busFeed, parts, healthOfKind, next, up, arc, connected, feeds, feeders, feedBy}
+use Rattle.model.specs.Choosing.{choices, onPaths, usable, countedClosed, isolated, permitted, choose, addPath, chosen, plan, commands, choiceOf}
+use Rattle.model.specs.Sheet.{written, opening, closing, sheetOf, sheet}
+use Rattle.model.specs.Reports.{allFit, blankRing, told, partNamed, reported, places, healthOf, commandsOf, healthPlaces, commandPlaces, planned}
+use Rattle.model.specs.Reports.{withPlan}
+use Rattle.model.specs.Answers.{Reply, refusedReply, servedReply, startReply, allDark, refusedAnswer, servedAnswer, stepReply}
+use Rattle.model.specs.Laws.Lists.{all-at}
+use Rattle.model.specs.Laws.Refusals.{served-refused}
+use Rattle.theory.specs.Statements.Demand3.{Controller, PlantState, operation, decode, step, Calls, nothing, _then_, whole, in-first, in-call}
+use Rattle.theory.specs.Statements.Demand3.{excepted, Interrupted, StartMeets, too-small, too-large, too-short, Demand3, afterWord, afterWords}
+use Rattle.theory.specs.Statements.Demand3.{perform, performAll, commandNamed, withOperation, operations, phasesAt, wordRefusal}
+use Rattle.theory.specs.Theorems.Demand3.{controller, demand3}
+use Rattle.theory.specs.Statements.Demand2.{Demand2, earlier}
+use Rattle.theory.specs.Theorems.Demand2.{demand2}
+use Rattle.theory.specs.Refuting.Claims as claim
+use Rattle.theory.specs.Refuting.Claims.{Instance, Claim3, Claim2, fails3, fails2, extraOpen, extraClose, hasOperation, otherOutcome, rises, sum}
+use Rattle.theory.specs.Refuting.Claims.{digest, ringSum, choiceNumber, choicesSum, operationNumber, operationsDigest, isDark, feedNumber, isClash}
+use Rattle.theory.specs.Refuting.Claims.{onWorld, onPhases, due, refusedInVain, notRefused, recordChanged, bufferChanged, choicesLit, behindChanged}
+use Rattle.theory.specs.Refuting.Claims.{lengthChanged, darkThoughReached, litThoughUnreached, litByAnother, darkThoughFed, otherHealth, otherCommand}
+use Rattle.theory.specs.Refuting.Claims.{unfitAbove, onAbove, anyClash, otherChoice, newCommands, otherFirst, otherSecond, clashInFirst}
+use Rattle.theory.specs.Refuting.Claims.{clashInSecond, startOf, firstReply, startDue, atCall, atServed, atPhases, atStart, atEnd}
+use Rattle.theory.specs.Refuting.Runs.{run-ended, ordered, bothPhases, worldAfter, afterCall, run}
+use Rattle.theory.specs.Refuting.Refuted.{refutes3, refutes2}
+use Rattle.wrong.specs.Designs.{designController, right, right-is, startSpoilt, stepSpoilt, whenRefused, whenServed, withRing, withChoices}
+use Rattle.wrong.specs.Designs.{withBuffer, allBusesDark, givesUp, emptyPhases, repeatsStart, onePlan, miscounts, oneWave, wavesExchanged}
+use Rattle.wrong.specs.Designs.{stuckClosedOpen, breakerBehind, highFirst, designCommands, designSheet, designChoices, designServed, designBad}
+use Rattle.wrong.specs.Designs.{designStart, designStep, chosenBy, trying, planningFor, writing, closingsFirst}
+use Rattle.model.specs.Values.{partCode, samePart}
+use Rattle.model.specs.Priority.{others, sources, pathBusBreakers, pathBreakers, pathParts, highRises, pathsFrom, paths}
+use Rattle.model.specs.Refusals.{firstMet, sizeOutside, notOfRing, wordOfOtherKind, generatorFitAgain, tooShort, healthOutside, activeAbove}
+use Rattle.model.specs.Refusals.{unplanned, badRecord, nextSheet, reportConditions, startRefusal, stepRefusal}
+
+-- ---- the calls that show it
+
+-- the longest sheet's room
+unfoldable pub room : List ℕ
+room = replicate 122 0
+
+-- a report of a part and a word
+abbrev report : Part → Word → Report
+report p w = record { part = p; word = w }
+
+-- G1 stuck off
+abbrev generator1Off : Report
+generator1Off = report (Generator 1) StuckOff
+
+-- G2 stuck off
+abbrev generator2Off : Report
+generator2Off = report (Generator 2) StuckOff
+
+-- G3 stuck off
+abbrev generator3Off : Report
+generator3Off = report (Generator 3) StuckOff
+
+-- G1 fit again, a word that no generator has
+abbrev generator1Fit : Report
+generator1Fit = report (Generator 1) Fit
+
+-- G4 stuck off, a part that no ring of three has
+abbrev generator4Off : Report
+generator4Off = report (Generator 4) StuckOff
+
+-- BB1 stuck off, a word that no breaker has
+abbrev breaker1Off : Report
+breaker1Off = report (BusBreaker 1) StuckOff
+
+-- BB1 stuck closed
+abbrev breaker1Closed : Report
+breaker1Closed = report (BusBreaker 1) StuckClosed
+
+-- BB2 stuck open
+abbrev breaker2Open : Report
+breaker2Open = report (BusBreaker 2) StuckOpen
+
+-- BB2 fit again
+abbrev breaker2Fit : Report
+breaker2Fit = report (BusBreaker 2) Fit
+
+-- the calls of some reports, the last first
+unfoldable pub callsOf : List Report → Calls
+callsOf [] = nothing
+callsOf (r ∷ rs) = callsOf rs then step r room
+
+-- a start of n with a buffer
+unfoldable pub starting : ℕ → List ℕ → Instance
+starting n buffer = record { size = n; lending = buffer; calls = nothing; call = step generator1Off room; backward = false; done = 0 }
+
+-- a ring of three that was handed some reports, the last first, and then a report with a buffer
+unfoldable pub handed : List Report → Report → List ℕ → Instance
+handed rs r buffer = record { size = 3; lending = room; calls = callsOf rs; call = step r buffer; backward = false; done = 0 }
+
+-- .. with room for every sheet
+abbrev pub after : List Report → Report → Instance
+after rs r = handed rs r room
+
+-- interrupted after k operations of a phase
+unfoldable pub halted : ℕ → Instance → Instance
+halted k i = record { size = i .size; lending = i .lending; calls = i .calls; call = i .call; backward = i .backward; done = k }
+
+-- each phase's operations the other way round
+unfoldable pub reversed : Instance → Instance
+reversed i = record { size = i .size; lending = i .lending; calls = i .calls; call = i .call; backward = true; done = i .done }
+
+-- ---- spoilt controllers
+
+-- a sheet of two sizes and some operations, each its code and its command
+unfoldable pub sheetWith : ℕ → ℕ → List (ℕ × ℕ) → List ℕ → List ℕ
+sheetWith k l os buffer = written (k ∷ l ∷ (map (λ o. o .0) os ++ map (λ o. o .1) os)) buffer
+
+-- served starts, or steps, and refused ones, altered
+unfoldable pub startRefusing : (Reply → Reply) → Controller
+startRefusing f = startSpoilt (λ n buffer reply. whenRefused f reply)
+
+unfoldable pub startServing : (Reply → Reply) → Controller
+startServing f = startSpoilt (λ n buffer reply. whenServed f reply)
+
+unfoldable pub stepRefusing : (Reply → Reply) → Controller
+stepRefusing f = stepSpoilt (λ ring r buffer reply. whenRefused f reply)
+
+unfoldable pub stepServing : (Reply → Reply) → Controller
+stepServing f = stepSpoilt (λ ring r buffer reply. whenServed f reply)
+
+-- every served start writes this sheet, or every served step
+unfoldable pub startWrites : ℕ → ℕ → List (ℕ × ℕ) → Controller
+startWrites k l os = startServing (withBuffer (sheetWith k l os))
+
+unfoldable pub stepWrites : ℕ → ℕ → List (ℕ × ℕ) → Controller
+stepWrites k l os = stepServing (withBuffer (sheetWith k l os))
+
+-- bytes of a buffer altered: its first, its last of 122, one more
+abbrev pub firstByte : List ℕ → List ℕ
+firstByte buffer = 1 ∷ drop 1 buffer
+
+abbrev pub lastByte : List ℕ → List ℕ
+lastByte buffer = take 121 buffer ++ (1 ∷ [])
+
+abbrev pub oneMore : List ℕ → List ℕ
+oneMore buffer = buffer ++ (0 ∷ [])
+
+-- a ring state altered: its size; every part fit; no command; G4 stuck off; GB4 closed
+abbrev pub largerRing : Ring → Ring
+largerRing ring = record { n = 4; health = ring .health; commands = ring .commands }
+
+abbrev pub mendedRing : Ring → Ring
+mendedRing ring = record { n = ring .n; health = blankRing 3 .health; commands = ring .commands }
+
+abbrev pub idleRing : Ring → Ring
+idleRing ring = record { n = ring .n; health = ring .health; commands = blankRing 3 .commands }
+
+abbrev pub faultAbove : Ring → Ring
+faultAbove ring =
+    let h = ring .health in
+    record {
+      n = ring .n;
+      health = record { generators = set (h .generators) 3 1; «generator_breakers» = h .«generator_breakers»; «bus_breakers» = h .«bus_breakers» };
+      commands = ring .commands;
+    }
+
+abbrev pub commandAbove : Ring → Ring
+commandAbove ring =
+    let c = ring .commands in
+    record {
+      n = ring .n;
+      health = ring .health;
+      commands = record { generators = c .generators; «generator_breakers» = set (c .«generator_breakers») 3 true; «bus_breakers» = c .«bus_breakers» };
+    }
+
+-- refuses the start of a ring of 20, every start, every report
+unfoldable pub refusesTwenty : Controller
+refusesTwenty = startSpoilt (λ n buffer reply. cond (eqb n 20) (refusedReply 5 (blankRing 0) buffer) reply)
+
+unfoldable pub refusesStarts : Controller
+refusesStarts = startSpoilt (λ n buffer reply. refusedReply 2 (blankRing 0) buffer)
+
+unfoldable pub refusesReports : Controller
+refusesReports = stepSpoilt (λ ring r buffer reply. refusedReply 5 ring buffer)
+
+-- serves every start, every report
+unfoldable pub servesStarts : Controller
+servesStarts = startSpoilt (λ n buffer reply. servedReply (blankRing n) buffer)
+
+unfoldable pub servesReports : Controller
+servesReports = stepSpoilt (λ ring r buffer reply. servedReply (told ring r) buffer)
+
+-- shows the choices of a ring of three without faults, or none
+unfoldable pub fitChoices : Reply → Reply
+fitChoices reply = withChoices (choices 3 allFit) reply
+
+unfoldable pub noChoices : Reply → Reply
+noChoices reply = withChoices allDark reply
+
+-- ---- demand 3: a wrong controller, the claim that it fails, and where
+
+pub record Row3 : Type 0 where
+  pub wrong : Controller
+  pub claim : Claim3
+  pub shows : Instance
+
+abbrev row : Controller → Claim3 → Instance → Row3
+row c k i = record { wrong = c; claim = k; shows = i }
+
+-- the designs of document 01's "Contract and proof" and "Classroom errors to shut out"
+unfoldable pub wrongDesigns : List Row3
+wrongDesigns =
+    row (designController allBusesDark) claim.dark-exactly (after [] generator1Off)
+    ∷ row (designController givesUp) claim.dark-exactly (after [] generator1Off)
+    ∷ row (designController emptyPhases) claim.energized (after [] generator1Off)
+    ∷ row (designController repeatsStart) claim.energized (after (generator4Off ∷ []) generator1Off)
+    ∷ row (designController onePlan) claim.choices-are (after [] breaker2Open)
+    ∷ row (designController miscounts) claim.start-second (starting 3 room)
+    ∷ row (designController oneWave) claim.clash-in-first (halted 1 (after (breaker2Open ∷ []) breaker2Fit))
+    ∷ row (designController wavesExchanged) claim.clash-in-first (halted 1 (after (breaker2Open ∷ []) breaker2Fit))
+    ∷ row (designController stuckClosedOpen) claim.clash-between (after [] breaker1Closed)
+    ∷ row (designController breakerBehind) claim.clash-in-start-second (halted 6 (starting 3 room))
+    ∷ row (designController highFirst) claim.start-chosen (starting 5 room)
+    ∷ []
+
+-- starts that are refused in vain, or not refused; what a refused start alters; what a served one does
+unfoldable pub wrongStarts : List Row3
+wrongStarts =
+    row refusesStarts claim.start-only (starting 3 room)
+    ∷ row servesStarts claim.start-always (starting 2 room)
+    ∷ row servesStarts claim.start-always (starting 3 (replicate 11 0))
+    ∷ row (startRefusing (withRing (λ ring. blankRing 3))) claim.start-record-kept (starting 2 room)
+    ∷ row (startRefusing (withBuffer firstByte)) claim.start-buffer-kept (starting 2 room)
+    ∷ row (startRefusing fitChoices) claim.start-choices-dark (starting 2 room)
+    ∷ row (startServing (withBuffer lastByte)) claim.start-behind-kept (starting 3 room)
+    ∷ row (startServing (withBuffer oneMore)) claim.start-length-kept (starting 3 room)
+    ∷ row (startServing noChoices) claim.start-chosen (starting 3 room)
+    ∷ row (startWrites 5 0 ((0, 1) ∷ (1, 1) ∷ (32, 1) ∷ (33, 1) ∷ (65, 1) ∷ [])) claim.start-first (starting 3 room)
+    ∷ row (startWrites 0 5 ((65, 1) ∷ (1, 1) ∷ (32, 1) ∷ (33, 1) ∷ (0, 1) ∷ [])) claim.start-second (starting 3 room)
+    ∷ row (startWrites 0 1 ((99, 1) ∷ [])) claim.ends (starting 3 room)
+    ∷ row (startWrites 7 0 ((0, 1) ∷ (1, 1) ∷ (32, 1) ∷ (33, 1) ∷ (65, 1) ∷ (64, 1) ∷ (64, 0) ∷ [])) claim.clash-in-start-first (halted 6 (starting 3 room))
+    ∷ row (startWrites 0 7 ((0, 1) ∷ (1, 1) ∷ (32, 1) ∷ (33, 1) ∷ (65, 1) ∷ (64, 1) ∷ (64, 0) ∷ [])) claim.clash-in-start-second (halted 6 (starting 3 room))
+    ∷ []
+
+-- steps that are refused in vain, or not refused; what a refused step alters, and a served one behind its sheet
+unfoldable pub wrongRefusals : List Row3
+wrongRefusals =
+    row refusesReports claim.only (after [] generator1Off)
+    ∷ row servesReports claim.always (after [] generator4Off)
+    ∷ row servesReports claim.always (after [] breaker1Off)
+    ∷ row servesReports claim.always (after [] generator1Fit)
+    ∷ row servesReports claim.always (handed [] breaker2Open (replicate 5 0))
+    ∷ row (stepRefusing (withRing idleRing)) claim.record-kept (after [] generator4Off)
+    ∷ row (stepRefusing (withBuffer firstByte)) claim.buffer-kept (after [] generator4Off)
+    ∷ row (stepRefusing fitChoices) claim.choices-dark (after [] generator4Off)
+    ∷ row (stepServing (withBuffer lastByte)) claim.behind-kept (after [] breaker2Open)
+    ∷ row (stepServing (withBuffer oneMore)) claim.length-kept (after [] breaker2Open)
+    ∷ []
+
+-- served steps: what they show, the record that they give, their phases
+unfoldable pub wrongSteps : List Row3
+wrongSteps =
+    row (stepServing noChoices) claim.choices-are (after [] breaker2Open)
+    ∷ row (stepWrites 1 1 ((65, 0) ∷ (66, 2) ∷ [])) claim.decodes (after [] breaker2Open)
+    ∷ row (stepWrites 1 1 ((99, 0) ∷ (66, 1) ∷ [])) claim.decodes (after [] breaker2Open)
+    ∷ row (stepServing (withBuffer (take 5))) claim.decodes (after [] breaker2Open)
+    ∷ row (stepWrites 0 1 ((99, 1) ∷ [])) claim.ends-after (after [] breaker2Open)
+    ∷ row (stepWrites 0 1 ((66, 1) ∷ [])) claim.first-is (after [] breaker2Open)
+    ∷ row (stepWrites 1 0 ((65, 0) ∷ [])) claim.second-is (after [] breaker2Open)
+    ∷ row (stepServing noChoices) claim.dark-exactly (after [] breaker2Open)
+    ∷ row (stepServing fitChoices) claim.lit-exactly (after (generator2Off ∷ generator1Off ∷ []) generator3Off)
+    ∷ row (stepServing fitChoices) claim.energized (after [] generator1Off)
+    ∷ row (stepServing noChoices) claim.de-energized (after [] breaker2Open)
+    ∷ row (stepServing (withRing largerRing)) claim.size (after [] breaker2Open)
+    ∷ row (stepServing (withRing mendedRing)) claim.health (after [] breaker2Open)
+    ∷ row (stepServing (withRing idleRing)) claim.standing (after [] breaker2Open)
+    ∷ row (stepServing (withRing faultAbove)) claim.health-above (after [] breaker2Open)
+    ∷ row (stepServing (withRing commandAbove)) claim.commands-above (after [] breaker2Open)
+    ∷ []
+
+-- interruptions: inside the first phase alone, inside the second alone, when the orders have ended; and what another order of the
+-- same operations does, at an interruption and in the end
+unfoldable pub wrongMoments : List Row3
+wrongMoments =
+    row (stepWrites 3 1 ((65, 0) ∷ (64, 1) ∷ (64, 0) ∷ (66, 1) ∷ [])) claim.clash-in-first (halted 2 (after [] breaker2Open))
+    ∷ row (stepWrites 1 3 ((65, 0) ∷ (66, 1) ∷ (64, 1) ∷ (64, 0) ∷ [])) claim.clash-in-second (halted 2 (after [] breaker2Open))
+    ∷ row (stepWrites 1 2 ((65, 0) ∷ (66, 1) ∷ (64, 1) ∷ [])) claim.clash-between (after [] breaker2Open)
+    ∷ row (stepWrites 2 2 ((32, 0) ∷ (64, 1) ∷ (64, 0) ∷ (32, 1) ∷ [])) claim.clash-in-first (halted 1 (reversed (after [] breaker2Open)))
+    ∷ row (stepWrites 2 2 ((32, 0) ∷ (64, 1) ∷ (64, 0) ∷ (32, 1) ∷ [])) claim.clash-in-second (halted 1 (reversed (after [] breaker2Open)))
+    ∷ row (stepWrites 2 1 ((65, 1) ∷ (65, 0) ∷ (66, 1) ∷ [])) claim.standing (reversed (after [] breaker2Open))
+    ∷ row (stepWrites 1 2 ((65, 0) ∷ (66, 0) ∷ (66, 1) ∷ [])) claim.standing (reversed (after [] breaker2Open))
+    ∷ []
+
+unfoldable pub wrongs3 : List Row3
+wrongs3 = wrongDesigns ++ (wrongStarts ++ (wrongRefusals ++ (wrongSteps ++ wrongMoments)))
+
+-- the wrong controller fails the claim
+unfoldable pub refuted3 : Row3 → Bool
+refuted3 k = fails3 (k .wrong) (k .shows) (k .claim)
+
+-- a test that cannot pass
+none-true : (b : Bool) → (b ≡ true → ⊥) → b ≡ false
+none-true true f = absurd (f refl)
+none-true false f = refl
+
+-- every computed fact of demand 3, by one evaluation
+computed3 : allOf refuted3 wrongs3 ≡ true
+unfolding below keep first anyOf allOf partCode samePart parts healthOfKind next up arc connected feeds feeders feedBy busFeed others
+    sources pathBusBreakers pathBreakers pathParts highRises pathsFrom paths onPaths usable countedClosed isolated permitted choose addPath
+    chosen plan commands choiceOf choices opening closing sheetOf sheet written partNamed reported places healthOf commandsOf healthPlaces
+    commandPlaces blankRing told planned withPlan firstMet sizeOutside notOfRing wordOfOtherKind generatorFitAgain tooShort healthOutside
+    activeAbove unplanned badRecord nextSheet reportConditions startRefusal stepRefusal allDark refusedAnswer refusedReply servedAnswer
+    servedReply startReply stepReply afterWord afterWords perform performAll commandNamed withOperation operations phasesAt decode excepted
+    wordRefusal earlier ordered bothPhases worldAfter afterCall run sum digest ringSum choiceNumber choicesSum operationNumber
+    operationsDigest isDark feedNumber isClash onWorld onPhases due refusedInVain notRefused recordChanged bufferChanged choicesLit
+    behindChanged lengthChanged darkThoughReached litThoughUnreached litByAnother darkThoughFed otherHealth otherCommand unfitAbove onAbove
+    anyClash otherChoice newCommands otherFirst otherSecond clashInFirst clashInSecond startOf firstReply startDue atCall atServed atPhases atStart
+    atEnd fails3 designCommands designSheet designChoices designServed designBad designStart designStep designController right chosenBy
+    trying planningFor writing allBusesDark givesUp emptyPhases repeatsStart onePlan miscounts closingsFirst oneWave wavesExchanged
+    stuckClosedOpen breakerBehind highFirst startSpoilt stepSpoilt whenRefused whenServed withRing withChoices withBuffer room callsOf
+    starting handed halted reversed sheetWith startRefusing startServing stepRefusing stepServing startWrites stepWrites refusesTwenty
+    refusesStarts refusesReports servesStarts servesReports fitChoices noChoices wrongDesigns wrongStarts wrongRefusals wrongSteps
+    wrongMoments wrongs3 refuted3 flatMap
+computed3 = refl
+
+-- none of the wrong controllers meets demand 3
+pub none-meets-3 : (k : Row3) → k ∈ wrongs3 → Demand3 (k .wrong) → ⊥
+unfolding refuted3
+none-meets-3 k m d = refutes3 (k .wrong) (k .shows) d (k .claim) (all-at refuted3 wrongs3 computed3 k m)
+
+-- the right design fails no claim anywhere
+pub right-fails-none-3 : (i : Instance) (k : Claim3) → fails3 (designController right) i k ≡ false
+right-fails-none-3 i k = rw right-is (none-true (fails3 controller i k) (refutes3 controller i demand3 k))
+
+-- nor one that is wrong at the largest ring alone, or above it
+none-meets-20 : Demand3 refusesTwenty → ⊥
+unfolding refusesTwenty startSpoilt refusedReply refusedAnswer
+none-meets-20 d = five (d .start-answered 20 room .only 5 refl)
+  where
+    five : {n k : ℕ} → StartMeets n k 5 → ⊥
+    five {n} {k} m = go m refl
+      where
+        go : {j : ℕ} → StartMeets n k j → j ≡ 5 → ⊥
+        go (too-small l) e = omega arith
+        go (too-large l) e = omega arith
+        go (too-short b s l) e = omega arith
+
+none-meets-21 : Demand3 servesStarts → ⊥
+unfolding servesStarts startSpoilt servedReply servedAnswer
+none-meets-21 d = served-refused refl (d .start-answered 21 room .always 2 (too-large (omega arith)))
+
+-- ---- demand 2: likewise
+
+pub record Row2 : Type 0 where
+  pub wrong : Controller
+  pub claim : Claim2
+  pub shows : Instance
+
+abbrev row2 : Controller → Claim2 → Instance → Row2
+row2 c k i = record { wrong = c; claim = k; shows = i }
+
+-- those that document 01 holds against demand 2, and a wrong controller for every claim of it
+unfoldable pub wrongs2 : List Row2
+wrongs2 =
+    row2 (designController allBusesDark) claim.start-path (starting 3 room)
+    ∷ row2 (designController givesUp) claim.start-path (starting 3 room)
+    ∷ row2 (designController emptyPhases) claim.all-close (after [] breaker2Open)
+    ∷ row2 (designController repeatsStart) claim.call-path (after [] generator1Off)
+    ∷ row2 (designController onePlan) claim.call-path (after [] breaker2Open)
+    ∷ row2 (designController miscounts) claim.closes (after [] breaker1Closed)
+    ∷ row2 (designController highFirst) claim.start-path (starting 5 room)
+    ∷ row2 refusesStarts claim.start-answered (starting 3 room)
+    ∷ row2 refusesReports claim.call-answered (after [] generator1Off)
+    ∷ row2 (stepWrites 2 1 ((64, 0) ∷ (65, 0) ∷ (66, 1) ∷ [])) claim.opens (after [] breaker2Open)
+    ∷ row2 (stepWrites 0 1 ((66, 1) ∷ [])) claim.all-open (after [] breaker2Open)
+    ∷ row2 (stepWrites 1 2 ((65, 0) ∷ (64, 1) ∷ (66, 1) ∷ [])) claim.closes (after [] breaker2Open)
+    ∷ row2 (stepWrites 1 0 ((65, 0) ∷ [])) claim.all-close (after [] breaker2Open)
+    ∷ row2 (stepWrites 3 2 ((65, 0) ∷ (33, 0) ∷ (1, 0) ∷ (64, 1) ∷ (66, 1) ∷ [])) claim.opens-rising (after [] breaker1Closed)
+    ∷ row2 (stepWrites 3 2 ((1, 0) ∷ (33, 0) ∷ (65, 0) ∷ (66, 1) ∷ (64, 1) ∷ [])) claim.closes-rising (after [] breaker1Closed)
+    ∷ row2 (stepWrites 1 0 ((65, 0) ∷ [])) claim.brings-about (after [] breaker2Open)
+    ∷ []
+
+unfoldable pub refuted2 : Row2 → Bool
+refuted2 k = fails2 (k .wrong) (k .shows) (k .claim)
+
+computed2 : allOf refuted2 wrongs2 ≡ true
+unfolding below keep first anyOf allOf partCode samePart parts healthOfKind next up arc connected feeds feeders feedBy busFeed others
+    sources pathBusBreakers pathBreakers pathParts highRises pathsFrom paths onPaths usable countedClosed isolated permitted choose addPath
+    chosen plan commands choiceOf choices opening closing sheetOf sheet written partNamed reported places healthOf commandsOf healthPlaces
+    commandPlaces blankRing told planned withPlan firstMet sizeOutside notOfRing wordOfOtherKind generatorFitAgain tooShort healthOutside
+    activeAbove unplanned badRecord nextSheet reportConditions startRefusal stepRefusal allDark refusedAnswer refusedReply servedAnswer
+    servedReply startReply stepReply afterWord afterWords perform performAll commandNamed withOperation operations phasesAt decode excepted
+    wordRefusal earlier ordered bothPhases worldAfter afterCall run sum digest ringSum choiceNumber choicesSum operationNumber
+    operationsDigest isDark feedNumber isClash onWorld onPhases due refusedInVain notRefused recordChanged bufferChanged choicesLit
+    behindChanged lengthChanged darkThoughReached litThoughUnreached litByAnother darkThoughFed otherHealth otherCommand unfitAbove onAbove
+    anyClash otherChoice newCommands otherFirst otherSecond clashInFirst clashInSecond startOf firstReply startDue atCall atServed atPhases atStart
+    atEnd fails3 designCommands designSheet designChoices designServed designBad designStart designStep designController right chosenBy
+    trying planningFor writing allBusesDark givesUp emptyPhases repeatsStart onePlan miscounts closingsFirst oneWave wavesExchanged
+    stuckClosedOpen breakerBehind highFirst startSpoilt stepSpoilt whenRefused whenServed withRing withChoices withBuffer room callsOf
+    starting handed halted reversed sheetWith startRefusing startServing stepRefusing stepServing startWrites stepWrites refusesTwenty
+    refusesStarts refusesReports servesStarts servesReports fitChoices noChoices flatMap fails2 extraOpen extraClose hasOperation
+    otherOutcome rises wrongs2 refuted2
+computed2 = refl
+
+-- none of the wrong controllers meets demand 2
+pub none-meets-2 : (k : Row2) → k ∈ wrongs2 → Demand2 (k .wrong) → ⊥
+unfolding refuted2
+none-meets-2 k m d = refutes2 (k .wrong) (k .shows) d (k .claim) (all-at refuted2 wrongs2 computed2 k m)
+
+-- the right design fails no claim anywhere
+pub right-fails-none-2 : (i : Instance) (k : Claim2) → fails2 (designController right) i k ≡ false
+right-fails-none-2 i k = rw right-is (none-true (fails2 controller i k) (refutes2 controller i demand2 k))
+
+-- ---- the order of operations
+
+-- that controller, interrupted after k operations of either phase in the sheet's order
+unfoldable pub clashesNowhere : ℕ → Bool
+clashesNowhere k =
+    let c = stepWrites 2 2 ((32, 0) ∷ (64, 1) ∷ (64, 0) ∷ (32, 1) ∷ []) in
+    let i = halted k (after [] breaker2Open) in
+    not (fails3 c i claim.clash-in-first) && not (fails3 c i claim.clash-in-second)
+
+-- the order of the operations is what is wrong with the fourth and fifth controller of `wrongMoments`: in the sheet's own order they
+-- clash nowhere
+in-sheet-order : allOf clashesNowhere (0 ∷ 1 ∷ 2 ∷ []) ≡ true
+unfolding clashesNowhere below keep first anyOf allOf partCode samePart parts healthOfKind next up arc connected feeds feeders feedBy busFeed others
+    sources pathBusBreakers pathBreakers pathParts highRises pathsFrom paths onPaths usable countedClosed isolated permitted choose addPath
+    chosen plan commands choiceOf choices opening closing sheetOf sheet written partNamed reported places healthOf commandsOf healthPlaces
+    commandPlaces blankRing told planned withPlan firstMet sizeOutside notOfRing wordOfOtherKind generatorFitAgain tooShort healthOutside
+    activeAbove unplanned badRecord nextSheet reportConditions startRefusal stepRefusal allDark refusedAnswer refusedReply servedAnswer
+    servedReply startReply stepReply afterWord afterWords perform performAll commandNamed withOperation operations phasesAt decode excepted
+    wordRefusal earlier ordered bothPhases worldAfter afterCall run sum digest ringSum choiceNumber choicesSum operationNumber
+    operationsDigest isDark feedNumber isClash onWorld onPhases due refusedInVain notRefused recordChanged bufferChanged choicesLit
+    behindChanged lengthChanged darkThoughReached litThoughUnreached litByAnother darkThoughFed otherHealth otherCommand unfitAbove onAbove
+    anyClash otherChoice newCommands otherFirst otherSecond clashInFirst clashInSecond startOf firstReply startDue atCall atServed atPhases atStart
+    atEnd fails3 designCommands designSheet designChoices designServed designBad designStart designStep designController right chosenBy
+    trying planningFor writing allBusesDark givesUp emptyPhases repeatsStart onePlan miscounts closingsFirst oneWave wavesExchanged
+    stuckClosedOpen breakerBehind highFirst startSpoilt stepSpoilt whenRefused whenServed withRing withChoices withBuffer room callsOf
+    starting handed halted reversed sheetWith startRefusing startServing stepRefusing stepServing startWrites stepWrites refusesTwenty
+    refusesStarts refusesReports servesStarts servesReports fitChoices noChoices flatMap
+in-sheet-order = refl
+
+-- ---- the exception is needed
+
+-- n = 3 after the start, BB1 stuck closed: before the first operation, at an excepted moment, B1 is fed by two generators
+exception-needed : (P : PlantState)
+    × Interrupted controller 3 room (nothing then step breaker1Closed room) P true
+    × (busFeed 3 (P .health) (P .last) 0 ≡ feed.Clash 1 2)
+unfolding below keep first anyOf allOf partCode samePart parts healthOfKind next up arc connected feeds feeders feedBy busFeed others
+    sources pathBusBreakers pathBreakers pathParts highRises pathsFrom paths onPaths usable countedClosed isolated permitted choose addPath
+    chosen plan commands choiceOf choices opening closing sheetOf sheet written partNamed reported places healthOf commandsOf healthPlaces
+    commandPlaces blankRing told planned withPlan firstMet sizeOutside notOfRing wordOfOtherKind generatorFitAgain tooShort healthOutside
+    activeAbove unplanned badRecord nextSheet reportConditions startRefusal stepRefusal allDark refusedAnswer refusedReply servedAnswer
+    servedReply startReply stepReply afterWord afterWords perform performAll commandNamed withOperation operations phasesAt decode excepted
+    wordRefusal earlier ordered bothPhases worldAfter afterCall run sum digest ringSum choiceNumber choicesSum operationNumber
+    operationsDigest isDark feedNumber isClash onWorld onPhases due refusedInVain notRefused recordChanged bufferChanged choicesLit
+    behindChanged lengthChanged darkThoughReached litThoughUnreached litByAnother darkThoughFed otherHealth otherCommand unfitAbove onAbove
+    anyClash otherChoice newCommands otherFirst otherSecond clashInFirst clashInSecond startOf firstReply startDue atCall atServed atPhases atStart
+    atEnd fails3 designCommands designSheet designChoices designServed designBad designStart designStep designController right chosenBy
+    trying planningFor writing allBusesDark givesUp emptyPhases repeatsStart onePlan miscounts closingsFirst oneWave wavesExchanged
+    stuckClosedOpen breakerBehind highFirst startSpoilt stepSpoilt whenRefused whenServed withRing withChoices withBuffer room callsOf
+    starting handed halted reversed sheetWith startRefusing startServing stepRefusing stepServing startWrites stepWrites refusesTwenty
+    refusesStarts refusesReports servesStarts servesReports fitChoices noChoices flatMap
+exception-needed = (
+  _,
+  in-call (step breaker1Closed room) whole (run-ended controller false 3 room nothing _ refl) refl refl
+      (in-first [] (Permᴰ·refl _)),
+  refl,
+)

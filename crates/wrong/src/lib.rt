@@ -1,0 +1,1 @@
+// Controllers that the demands exclude: definitions and computed facts alone, in specs/.
