@@ -55,7 +55,8 @@ unfoldable pub anyDiffer : PartCommands → PartCommands → Bool
 anyDiffer C D = anyOf (differs C D) (parts largest)
 
 -- the commands planned, held in arrays
-pub differ-planned : (n : ℕ) (H : PartHealth) (C : PartCommands) (D : Commands) → D ≡ commandPlaces (commands n H) → anyDiffer C (commandsOf D) ≡ unplanned n H C
+pub differ-planned : (n : ℕ) (H : PartHealth) (C : PartCommands) (D : Commands) → D ≡ commandPlaces (commands n H)
+    → anyDiffer C (commandsOf D) ≡ unplanned n H C
 unfolding anyDiffer unplanned
 differ-planned n H C D e = rw e (any-ext _ _ (parts largest) (λ p m. rw (command-places (commands n H) p (parts-at largest p m))))
 
@@ -75,7 +76,8 @@ module _ (ring : Ring) where
   unfolding badRecord anyOf
   bad-health a b = rw (a, b)
 
-  pub bad-above : sizeOutside (ring .n) ≡ false → healthOutside H (parts largest) ≡ false → activeAbove (ring .n) H C ≡ true → true ≡ badRecord ring
+  pub bad-above : sizeOutside (ring .n) ≡ false → healthOutside H (parts largest) ≡ false → activeAbove (ring .n) H C ≡ true
+      → true ≡ badRecord ring
   unfolding badRecord anyOf
   bad-above a b c = rw (a, b, c)
 

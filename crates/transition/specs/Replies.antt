@@ -48,7 +48,8 @@ module _ (ring : Ring) (good : badRecord ring ≡ false) (r : Report) where
       eight : ℕ
       eight = sheetRefusal room (nextSheet (told ring r))
 
-      go : (five six seven : Bool) → cond five 5 (cond six 6 (cond seven 7 eight)) ≡ orElse (cond five 5 (cond six 6 (cond seven 7 0))) eight
+      go : (five six seven : Bool)
+          → cond five 5 (cond six 6 (cond seven 7 eight)) ≡ orElse (cond five 5 (cond six 6 (cond seven 7 0))) eight
       go true six seven = refl
       go false true seven = refl
       go false false true = refl

@@ -56,7 +56,8 @@ withArray h (BusBreaker k) l = record { generators = h .generators; «generator_
 
 -- the health after a report: its word's number is stored at its part
 module _ (h : Health) (sized : Sized h) (r : Report) where
-  pub with-word : (v : ℕ) → v ≡ wordNumber (r .word) → (p : Part) → r .part ≡ p → (l : List ℕ) → l ≡ places (withValue (arrayOf h p) (number p) v)
+  pub with-word : (v : ℕ) → v ≡ wordNumber (r .word) → (p : Part) → r .part ≡ p
+      → (l : List ℕ) → l ≡ places (withValue (arrayOf h p) (number p) v)
       → withArray h p l ≡ healthPlaces (reported (healthOf h) r)
   unfolding withValue healthPlaces healthOf reported samePart
   with-word v e p f l q = rw (f, q, e) (go p)
@@ -65,7 +66,8 @@ module _ (h : Health) (sized : Sized h) (r : Report) where
       kept a s = sym (places-of a 0 s)
 
       go : (p : Part)
-          → withArray h p (places (withValue (arrayOf h p) (number p) (wordNumber (r .word)))) ≡ healthPlaces (reported (healthOf h) (record { part = p; word = r .word }))
+          → withArray h p (places (withValue (arrayOf h p) (number p) (wordNumber (r .word))))
+          ≡ healthPlaces (reported (healthOf h) (record { part = p; word = r .word }))
       go (Generator k) = rw (kept (h .«generator_breakers») (sized .generator-breakers), kept (h .«bus_breakers») (sized .bus-breakers))
       go (GeneratorBreaker k) = rw (kept (h .generators) (sized .generators), kept (h .«bus_breakers») (sized .bus-breakers))
       go (BusBreaker k) = rw (kept (h .generators) (sized .generators), kept (h .«generator_breakers») (sized .generator-breakers))

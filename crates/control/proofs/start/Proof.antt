@@ -16,14 +16,29 @@ returns c =
 start-requires : tie.Need-start-requires
 start-requires c κs = size-bounds _ (sym (c .before .before .size-outside .ensures) ∙ c .before .if1 .left)
 
+size-outside-requires : tie.Need-size-outside-requires
+size-outside-requires c κs = search needs
+
+blank-requires : tie.Need-blank-requires
+blank-requires c κs = search needs
+
+refused-requires : tie.Need-refused-requires
+refused-requires c κs = search needs
+
+same-length : tie.Need-same-length
+same-length c = search needs
+
+returns-2 : tie.Need-returns-2
+returns-2 c = c .before .before .start .ensures
+
 pub start-spec : {M : Type 1} → statement M
 start-spec =
     tie.close
     (tie.spec
-    (λ c κs. search needs)
-    (λ c κs. search needs)
-    (λ c κs. search needs)
+    size-outside-requires
+    blank-requires
+    refused-requires
     returns
     start-requires
-    (λ c. search needs)
-    (λ c. c .before .before .start .ensures))
+    same-length
+    returns-2)

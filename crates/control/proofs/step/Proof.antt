@@ -10,13 +10,28 @@ returns : tie.Need-returns
 unfolding stepReply
 returns c = step-refused _ _ _ _ (sym (c .before .before .bad-record .ensures) ∙ c .before .if1 .taken) (c .refused .ensures)
 
+bad-record-requires : tie.Need-bad-record-requires
+bad-record-requires c κs = search needs
+
+refused-requires : tie.Need-refused-requires
+refused-requires c κs = search needs
+
+step-requires : tie.Need-step-requires
+step-requires c κs = sym (c .before .before .bad-record .ensures) ∙ c .before .if1 .left
+
+same-length : tie.Need-same-length
+same-length c = search needs
+
+returns-2 : tie.Need-returns-2
+returns-2 c = c .before .before .step .ensures
+
 pub step-spec : {M : Type 1} → statement M
 step-spec =
     tie.close
     (tie.spec
-    (λ c κs. search needs)
-    (λ c κs. search needs)
+    bad-record-requires
+    refused-requires
     returns
-    (λ c κs. sym (c .before .before .bad-record .ensures) ∙ c .before .if1 .left)
-    (λ c. search needs)
-    (λ c. c .before .before .step .ensures))
+    step-requires
+    same-length
+    returns-2)

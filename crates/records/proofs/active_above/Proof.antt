@@ -14,34 +14,67 @@ use Rattle.records.proofs.active_above.Statement.{statement}
 use Rattle.records.proofs.active_above.Tie as tie
 
 abbrev Inv-loop : tie.InvT-loop
-Inv-loop n health commands i₀ i = (n ≤ i) × (i ≤ 20) × ((p : Part) → InRing i p → n < number p → active (healthOf health) (commandsOf commands) p ≡ false)
+Inv-loop n health commands i₀ i =
+    (n ≤ i)
+    × (i ≤ 20)
+    × ((p : Part) → InRing i p → n < number p → active (healthOf health) (commandsOf commands) p ≡ false)
 
 abbrev μ-loop : tie.MeasureT-loop
 μ-loop n health commands i₀ i = 20 - i
 
-pub active-above-spec : {M : Type 1} → statement M
+loop-holds : tie.Need-loop-holds Inv-loop μ-loop
 unfolding healthOf commandsOf
-active-above-spec =
-    tie.close
-    (tie.spec
-    Inv-loop
-    μ-loop
-    (λ c. (search needs, search needs, λ p m l. absurd (omega arith)))
-    (λ c. search needs)
-    (λ c. search needs)
-    (λ c κs. search needs)
-    (λ c. sym (some-active _ _ _ (generator _) (search needs) (search needs) (sym (c .before .is-active .ensures) ∙ c .if1 .taken)))
-    (λ c. search needs)
-    (λ c. search needs)
-    (λ c κs. search needs)
-    (λ c. sym (some-active _ _ _ (generatorBreaker _) (search needs) (search needs) (sym (c .before .is-active2 .ensures) ∙ c .if2 .taken)))
-    (λ c. search needs)
-    (λ c. search needs)
-    (λ c κs. search needs)
-    (λ c. sym (some-active _ _ _ (busBreaker _) (search needs) (search needs) (sym (c .before .is-active3 .ensures) ∙ c .if3 .taken)))
-    (λ c. search needs)
-    (λ c. search needs)
-    (λ c.
+loop-holds c = (search needs, search needs, λ p m l. absurd (omega arith))
+
+element-copy-out-is-active : tie.Need-element-copy-out-is-active Inv-loop μ-loop
+element-copy-out-is-active c = search needs
+
+element-copy-out-is-active-2 : tie.Need-element-copy-out-is-active-2 Inv-loop μ-loop
+element-copy-out-is-active-2 c = search needs
+
+is-active-requires : tie.Need-is-active-requires Inv-loop μ-loop
+is-active-requires c κs = search needs
+
+returns : tie.Need-returns Inv-loop μ-loop
+unfolding healthOf commandsOf
+returns c = sym (some-active _ _ _ (generator _) (search needs) (search needs) (sym (c .before .is-active .ensures) ∙ c .if1 .taken))
+
+element-copy-out-is-active-3 : tie.Need-element-copy-out-is-active-3 Inv-loop μ-loop
+element-copy-out-is-active-3 c = search needs
+
+element-copy-out-is-active-4 : tie.Need-element-copy-out-is-active-4 Inv-loop μ-loop
+element-copy-out-is-active-4 c = search needs
+
+is-active-requires-2 : tie.Need-is-active-requires-2 Inv-loop μ-loop
+is-active-requires-2 c κs = search needs
+
+returns-2 : tie.Need-returns-2 Inv-loop μ-loop
+unfolding healthOf commandsOf
+returns-2 c =
+    sym (some-active _ _ _ (generatorBreaker _) (search needs) (search needs) (sym (c .before .is-active2 .ensures) ∙ c .if2 .taken))
+
+element-copy-out-is-active-5 : tie.Need-element-copy-out-is-active-5 Inv-loop μ-loop
+element-copy-out-is-active-5 c = search needs
+
+element-copy-out-is-active-6 : tie.Need-element-copy-out-is-active-6 Inv-loop μ-loop
+element-copy-out-is-active-6 c = search needs
+
+is-active-requires-3 : tie.Need-is-active-requires-3 Inv-loop μ-loop
+is-active-requires-3 c κs = search needs
+
+returns-3 : tie.Need-returns-3 Inv-loop μ-loop
+unfolding healthOf commandsOf
+returns-3 c = sym (some-active _ _ _ (busBreaker _) (search needs) (search needs) (sym (c .before .is-active3 .ensures) ∙ c .if3 .taken))
+
+add-i : tie.Need-add-i Inv-loop μ-loop
+add-i c = search needs
+
+loop-less : tie.Need-loop-less Inv-loop μ-loop
+loop-less c = search needs
+
+loop-again : tie.Need-loop-again Inv-loop μ-loop
+unfolding healthOf commandsOf
+loop-again c =
     let d = c .before .before .before .before in
     let e = d .before .before .before .before in (
       search needs,
@@ -50,5 +83,32 @@ active-above-spec =
           (λ l. sym (e .before .is-active .ensures) ∙ e .if1 .left)
           (λ l. sym (d .before .is-active2 .ensures) ∙ d .if2 .left)
           (λ l. sym (c .before .is-active3 .ensures) ∙ c .if3 .left),
-    ))
-    (λ c. sym (none-active _ _ _ (λ p m. c .before .loop .inv .2 p (m .0, omega arith)))))
+    )
+
+returns-4 : tie.Need-returns-4 Inv-loop μ-loop
+unfolding healthOf commandsOf
+returns-4 c = sym (none-active _ _ _ (λ p m. c .before .loop .inv .2 p (m .0, omega arith)))
+
+pub active-above-spec : {M : Type 1} → statement M
+active-above-spec =
+    tie.close
+    (tie.spec
+    Inv-loop
+    μ-loop
+    loop-holds
+    element-copy-out-is-active
+    element-copy-out-is-active-2
+    is-active-requires
+    returns
+    element-copy-out-is-active-3
+    element-copy-out-is-active-4
+    is-active-requires-2
+    returns-2
+    element-copy-out-is-active-5
+    element-copy-out-is-active-6
+    is-active-requires-3
+    returns-3
+    add-i
+    loop-less
+    loop-again
+    returns-4)

@@ -24,27 +24,54 @@ planned : (d : tie.After-plan)
 planned d = cc
 
 -- the standing commands are the last to be looked at
-returns : tie.Need-returns-4
-returns c =
+returns-4 : tie.Need-returns-4
+returns-4 c =
     let e = c .before .before in
     let d = e .before .before .before in
     c .differ .ensures
     ∙ differ-planned _ _ _ _ (planned (c .before))
     ∙ bad-commands _ (inside (d .before .before)) (of-kind d) (sym (e .before .active-above .ensures) ∙ e .if3 .left)
 
+size-outside-requires : tie.Need-size-outside-requires
+size-outside-requires c κs = search needs
+
+returns : tie.Need-returns
+returns c = bad-size _ (sym (c .before .size-outside .ensures) ∙ c .if1 .taken)
+
+health-outside-requires : tie.Need-health-outside-requires
+health-outside-requires c κs = search needs
+
+returns-2 : tie.Need-returns-2
+returns-2 c = bad-health _ (inside (c .before .before)) (sym (c .before .health-outside .ensures) ∙ c .if2 .taken)
+
+cast-active-above : tie.Need-cast-active-above
+cast-active-above c = search needs
+
+active-above-requires : tie.Need-active-above-requires
+active-above-requires c κs = size-bounds _ (inside (c .before .before .before)) .1
+
+returns-3 : tie.Need-returns-3
+returns-3 c =
+    let d = c .before .before .before in
+    bad-above _ (inside (d .before .before)) (of-kind d) (sym (c .before .active-above .ensures) ∙ c .if3 .taken)
+
+plan-requires : tie.Need-plan-requires
+plan-requires c κs = size-bounds _ (inside (c .before .before .before .before .before))
+
+differ-requires : tie.Need-differ-requires
+differ-requires c κs = search needs
+
 pub bad-record-spec : {M : Type 1} → statement M
 bad-record-spec =
     tie.close
     (tie.spec
-    (λ c κs. search needs)
-    (λ c. bad-size _ (sym (c .before .size-outside .ensures) ∙ c .if1 .taken))
-    (λ c κs. search needs)
-    (λ c. bad-health _ (inside (c .before .before)) (sym (c .before .health-outside .ensures) ∙ c .if2 .taken))
-    (λ c. search needs)
-    (λ c κs. size-bounds _ (inside (c .before .before .before)) .1)
-    (λ c.
-    let d = c .before .before .before in
-    bad-above _ (inside (d .before .before)) (of-kind d) (sym (c .before .active-above .ensures) ∙ c .if3 .taken))
-    (λ c κs. size-bounds _ (inside (c .before .before .before .before .before)))
-    (λ c κs. search needs)
-    returns)
+    size-outside-requires
+    returns
+    health-outside-requires
+    returns-2
+    cast-active-above
+    active-above-requires
+    returns-3
+    plan-requires
+    differ-requires
+    returns-4)

@@ -7,8 +7,7 @@ use borrow.Author.Needs.{needs}
 use Rattle.model.specs.declared.Part.{Part}
 use Rattle.model.specs.Plant.{generator, generatorBreaker, busBreaker, InRing}
 use Rattle.model.specs.Reports.{commandsOf}
-use Rattle.model.specs.Laws.Parts.{ring-more}
-use Rattle.model.specs.Laws.Parts.{some-part, no-part}
+use Rattle.model.specs.Laws.Parts.{ring-more, some-part, no-part}
 use Rattle.records.specs.Records.{differs, anyDiffer}
 use Rattle.records.proofs.differ.Statement.{statement}
 use Rattle.records.proofs.differ.Tie as tie
@@ -19,27 +18,74 @@ Inv-loop standing planned i₀ i = (i ≤ 20) × ((p : Part) → InRing i p → 
 abbrev μ-loop : tie.MeasureT-loop
 μ-loop standing planned i₀ i = 20 - i
 
-pub differ-spec : {M : Type 1} → statement M
+loop-holds : tie.Need-loop-holds Inv-loop μ-loop
 unfolding commandsOf anyDiffer
+loop-holds c = (search needs, λ p m. absurd (omega arith))
+
+element-copy-out-if1 : tie.Need-element-copy-out-if1 Inv-loop μ-loop
+element-copy-out-if1 c = search needs
+
+element-copy-out-if1-2 : tie.Need-element-copy-out-if1-2 Inv-loop μ-loop
+element-copy-out-if1-2 c = search needs
+
+returns : tie.Need-returns Inv-loop μ-loop
+unfolding commandsOf anyDiffer
+returns c = sym (some-part _ _ (generator _) (search needs) (c .if1 .taken))
+
+element-copy-out-if2 : tie.Need-element-copy-out-if2 Inv-loop μ-loop
+element-copy-out-if2 c = search needs
+
+element-copy-out-if2-2 : tie.Need-element-copy-out-if2-2 Inv-loop μ-loop
+element-copy-out-if2-2 c = search needs
+
+returns-2 : tie.Need-returns-2 Inv-loop μ-loop
+unfolding commandsOf anyDiffer
+returns-2 c = sym (some-part _ _ (generatorBreaker _) (search needs) (c .if2 .taken))
+
+element-copy-out-if3 : tie.Need-element-copy-out-if3 Inv-loop μ-loop
+element-copy-out-if3 c = search needs
+
+element-copy-out-if3-2 : tie.Need-element-copy-out-if3-2 Inv-loop μ-loop
+element-copy-out-if3-2 c = search needs
+
+returns-3 : tie.Need-returns-3 Inv-loop μ-loop
+unfolding commandsOf anyDiffer
+returns-3 c = sym (some-part _ _ (busBreaker _) (search needs) (c .if3 .taken))
+
+add-i : tie.Need-add-i Inv-loop μ-loop
+add-i c = search needs
+
+loop-less : tie.Need-loop-less Inv-loop μ-loop
+loop-less c = search needs
+
+loop-again : tie.Need-loop-again Inv-loop μ-loop
+unfolding commandsOf anyDiffer
+loop-again c =
+    let d = c .before .before .before in
+    let e = d .before .before .before in
+    (search needs, ring-more _ _ (e .before .before .before .before .loop .inv .1) (e .if1 .left) (d .if2 .left) (c .if3 .left))
+
+returns-4 : tie.Need-returns-4 Inv-loop μ-loop
+unfolding commandsOf anyDiffer
+returns-4 c = sym (no-part _ _ (λ p m. c .before .loop .inv .1 p (m .0, omega arith)))
+
+pub differ-spec : {M : Type 1} → statement M
 differ-spec =
     tie.close
     (tie.spec
     Inv-loop
     μ-loop
-    (λ c. (search needs, λ p m. absurd (omega arith)))
-    (λ c. search needs)
-    (λ c. search needs)
-    (λ c. sym (some-part _ _ (generator _) (search needs) (c .if1 .taken)))
-    (λ c. search needs)
-    (λ c. search needs)
-    (λ c. sym (some-part _ _ (generatorBreaker _) (search needs) (c .if2 .taken)))
-    (λ c. search needs)
-    (λ c. search needs)
-    (λ c. sym (some-part _ _ (busBreaker _) (search needs) (c .if3 .taken)))
-    (λ c. search needs)
-    (λ c. search needs)
-    (λ c.
-    let d = c .before .before .before in
-    let e = d .before .before .before in
-    (search needs, ring-more _ _ (e .before .before .before .before .loop .inv .1) (e .if1 .left) (d .if2 .left) (c .if3 .left)))
-    (λ c. sym (no-part _ _ (λ p m. c .before .loop .inv .1 p (m .0, omega arith)))))
+    loop-holds
+    element-copy-out-if1
+    element-copy-out-if1-2
+    returns
+    element-copy-out-if2
+    element-copy-out-if2-2
+    returns-2
+    element-copy-out-if3
+    element-copy-out-if3-2
+    returns-3
+    add-i
+    loop-less
+    loop-again
+    returns-4)

@@ -5,9 +5,15 @@ use Rattle.records.specs.Records.{unfit-active, fit-active}
 use Rattle.records.proofs.is_active.Statement.{statement}
 use Rattle.records.proofs.is_active.Tie as tie
 
+returns : tie.Need-returns
+returns c = unfit-active (c .before .args .health) _ _ (λ e. omega (arith, facts)) (λ e. omega (arith, facts))
+
+returns-2 : tie.Need-returns-2
+returns-2 c = fit-active (c .before .args .health) _ (omega (arith, facts))
+
 pub is-active-spec : {M : Type 1} → statement M
 is-active-spec =
     tie.close
     (tie.spec
-    (λ c. unfit-active (c .before .args .health) _ _ (λ e. omega (arith, facts)) (λ e. omega (arith, facts)))
-    (λ c. fit-active (c .before .args .health) _ (omega (arith, facts))))
+    returns
+    returns-2)

@@ -20,8 +20,8 @@ returns : tie.Need-returns
 returns c =
     let w = c .before .before .before .before in
     let p = w .before .before .before .before .before in
-    advance-served _ (search needs) _ (commands-planned p) _ _ _ _ (w .write .ensures .0) (w .write .ensures .1 .1) (c .enum-told .given .1) _
-    (choices-planned p)
+    advance-served _ (search needs) _ (commands-planned p) _ _ _ _ (w .write .ensures .0) (w .write .ensures .1 .1)
+    (c .enum-told .given .1) _ (choices-planned p)
 
 returns-2 : tie.Need-returns-2
 returns-2 c =
@@ -30,16 +30,37 @@ returns-2 c =
     advance-refused _ (search needs) _ (commands-planned p) _ _ _ _ (w .write .ensures .0) (w .write .ensures .1 .1) _
     (c .before .before .number .given .1) _ (c .refused .ensures)
 
+plan-requires : tie.Need-plan-requires
+plan-requires c κs = search needs
+
+write-requires : tie.Need-write-requires
+write-requires c κs = search needs
+
+enum-told : tie.Need-enum-told
+enum-told c = search needs
+
+enum-known-number : tie.Need-enum-known-number
+enum-known-number c = search needs
+
+refused-requires : tie.Need-refused-requires
+refused-requires c κs = search needs
+
+same-length : tie.Need-same-length
+same-length c = search needs
+
+same-length-2 : tie.Need-same-length-2
+same-length-2 c = search needs
+
 pub advance-spec : {M : Type 1} → statement M
 advance-spec =
     tie.close
     (tie.spec
-    (λ c κs. search needs)
-    (λ c κs. search needs)
-    (λ c. search needs)
-    (λ c. search needs)
-    (λ c κs. search needs)
-    (λ c. search needs)
+    plan-requires
+    write-requires
+    enum-told
+    enum-known-number
+    refused-requires
+    same-length
     returns
-    (λ c. search needs)
+    same-length-2
     returns-2)

@@ -22,12 +22,21 @@ returns c =
     start-advanced _ (search needs) (search needs) _ _ (b .before .blank .ensures) (b .blank2 .ensures)
     (now (b .before .before .before .args .buffer)) _ _ (d .advance .ensures)
 
+blank-requires : tie.Need-blank-requires
+blank-requires c κs = search needs
+
+blank-requires-2 : tie.Need-blank-requires-2
+blank-requires-2 c κs = search needs
+
+same-length : tie.Need-same-length
+same-length c = search needs
+
 pub start-spec : {M : Type 1} → statement M
 start-spec =
     tie.close
     (tie.spec
-    (λ c κs. search needs)
-    (λ c κs. search needs)
+    blank-requires
+    blank-requires-2
     advance-requires
-    (λ c. search needs)
+    same-length
     returns)

@@ -32,18 +32,37 @@ unfolding stepReply
 returns-2 c =
     let o = c .before .before .before .before in
     let s = o .before .before in
-    step-refused _ (s .pre) _ (now (s .args .buffer)) _ (o .check-report .ensures .0) _ _ (c .before .before .number .given .1) (c .refused .ensures)
+    step-refused _ (s .pre) _ (now (s .args .buffer)) _ (o .check-report .ensures .0) _ _ (c .before .before .number .given .1)
+    (c .refused .ensures)
+
+check-report-requires : tie.Need-check-report-requires
+check-report-requires c κs = search needs
+
+enum-told : tie.Need-enum-told
+enum-told c = search needs
+
+told-requires : tie.Need-told-requires
+told-requires c κs = search needs
+
+enum-known-number : tie.Need-enum-known-number
+enum-known-number c = search needs
+
+refused-requires : tie.Need-refused-requires
+refused-requires c κs = search needs
+
+same-length : tie.Need-same-length
+same-length c = search needs
 
 pub step-spec : {M : Type 1} → statement M
 step-spec =
     tie.close
     (tie.spec
-    (λ c κs. search needs)
-    (λ c. search needs)
-    (λ c κs. search needs)
+    check-report-requires
+    enum-told
+    told-requires
     advance-requires
-    (λ c. search needs)
-    (λ c κs. search needs)
-    (λ c. search needs)
+    enum-known-number
+    refused-requires
+    same-length
     returns
     returns-2)
