@@ -114,18 +114,18 @@ servedAnswer ring = record { outcome = outcome.Served; ring = withPlan ring; cho
 unfoldable pub servedReply : Ring → List ℕ → Reply
 servedReply ring buffer = record { answer = servedAnswer ring; buffer = written (nextSheet ring) buffer }
 
+-- a call of refusal k, for a ring that was told its reports: served where k is 0; refused, it gives back the ring state kept
+abbrev pub replyBy : ℕ → Ring → Ring → List ℕ → Reply
+replyBy k ring kept buffer = cond (eqb k 0) (servedReply ring buffer) (refusedReply k kept buffer)
+
 -- "Starting a ring takes n and gives the record with all parts fit, each bus's choice and the sheet of its first orders.";
 -- "A refused start has a record with n = 0 and every part fit and ordered off or open."
 unfoldable pub startReply : ℕ → List ℕ → Reply
-startReply n buffer =
-    let k = startRefusal n (length buffer) in
-    cond (eqb k 0) (servedReply (blankRing n) buffer) (refusedReply k (blankRing 0) buffer)
+startReply n buffer = replyBy (startRefusal n (length buffer)) (blankRing n) (blankRing 0) buffer
 
 -- "A step takes a record and a report, and gives the new record, each bus's choice and the sheet."
 unfoldable pub stepReply : Ring → Report → List ℕ → Reply
-stepReply ring r buffer =
-    let k = stepRefusal ring r (length buffer) in
-    cond (eqb k 0) (servedReply (told ring r) buffer) (refusedReply k ring buffer)
+stepReply ring r buffer = replyBy (stepRefusal ring r (length buffer)) (told ring r) ring buffer
 
 -- the generator and the letter of each bus's choice in a call of refusal k that plans for a ring: "all dark" where it is refused
 unfoldable pub callValues : ℕ → Ring → List (ℕ × ℕ)

@@ -433,7 +433,8 @@ clashesNowhere k =
 -- the order of the operations is what is wrong with the fourth and fifth controller of `wrongMoments`: in the sheet's own order they
 -- clash nowhere
 in-sheet-order : allOf clashesNowhere (0 ∷ 1 ∷ 2 ∷ []) ≡ true
-unfolding clashesNowhere below keep first anyOf allOf partCode samePart parts healthOfKind next up arc connected feeds feeders feedBy busFeed others
+unfolding clashesNowhere below keep first anyOf allOf partCode samePart parts healthOfKind next up arc connected feeds feeders feedBy
+    busFeed others
     sources pathBusBreakers pathBreakers pathParts highRises pathsFrom paths onPaths usable countedClosed isolated permitted choose addPath
     chosen plan commands choiceOf choices opening closing sheetOf sheet written partNamed reported places healthOf commandsOf healthPlaces
     commandPlaces blankRing told planned withPlan firstMet sizeOutside notOfRing wordOfOtherKind generatorFitAgain tooShort healthOutside

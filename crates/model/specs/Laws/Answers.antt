@@ -1,10 +1,8 @@
 -- Laws of the answers to a start or a step: served or refused, with the number of the outcome and the values of the choices.
 use mathlib.Core.Path.{_≡_, refl}
-use mathlib.Core.Bool.{cond}
 use mathlib.Core.List.{List}
 use mathlib.Core.Logic.{_≢_}
 use Prim.Native.Nat.{ℕ}
-use lib.Dec.{eqb}
 use borrow.Author.Tests.{ne-eqb}
 use Rattle.model.specs.declared.Ring.{Ring}
 use Rattle.model.specs.declared.RingAnswer.{RingAnswer}
@@ -12,14 +10,10 @@ use Rattle.model.specs.Values.{outcomeNumber, choiceValues}
 use Rattle.model.specs.Sheet.{written}
 use Rattle.model.specs.Reports.{healthOf}
 use Rattle.model.specs.Refusals.{nextSheet}
-use Rattle.model.specs.Answers.{Reply, refusedAnswer, refusedReply, servedAnswer, servedReply, callValues}
+use Rattle.model.specs.Answers.{refusedAnswer, refusedReply, servedAnswer, servedReply, replyBy, callValues}
 use Rattle.model.specs.Laws.Choosing.{choices-values, dark-values}
 
--- the reply to a call of refusal k that plans for a ring, and gives back the one kept where it is refused
-abbrev pub replyBy : ℕ → Ring → Ring → List ℕ → Reply
-replyBy k ring kept buffer = cond (eqb k 0) (servedReply ring buffer) (refusedReply k kept buffer)
-
--- such a call answers r and leaves the bytes `after` in the buffer: its reply, its number and the values of its choices
+-- a call of refusal k answers r and leaves the bytes `after` in the buffer: its reply, its number and the values of its choices
 abbrev pub Gives : ℕ → Ring → Ring → List ℕ → RingAnswer → List ℕ → Type 0
 Gives k ring kept buffer r after =
     (r ≡ replyBy k ring kept buffer .answer)

@@ -23,7 +23,7 @@ use Rattle.model.specs.Sheet.{opening, closing, sheetOf, sheet, written}
 use Rattle.model.specs.Reports.{reported, allFit, healthOf, commandsOf, blankRing, told, planned}
 use Rattle.model.specs.Refusals.{firstMet, sizeOutside, notOfRing, wordOfOtherKind, generatorFitAgain, tooShort, nextSheet, reportConditions}
 use Rattle.model.specs.Refusals.{startRefusal, stepRefusal}
-use Rattle.model.specs.Answers.{Reply, refusedAnswer, refusedReply, servedAnswer, servedReply, startReply, stepReply}
+use Rattle.model.specs.Answers.{Reply, refusedAnswer, refusedReply, servedAnswer, servedReply, replyBy, startReply, stepReply}
 use Rattle.model.specs.Laws.Tests.{contra, dec, dec-eq, or-cases, or-none}
 use Rattle.model.specs.Laws.Refusals.{size-bounds}
 use Rattle.model.specs.Laws.Parts.{health-places, command-places}
@@ -90,10 +90,7 @@ module _ (ring : Ring) (buffer : List ℕ) where
   unfolding after written
   after-length fits = simp (length-append, length-drop) (omega arith)
 
--- the reply of number k, for a ring that was told its reports: served where k is 0, and else refused with the record kept
-abbrev pub replyBy : ℕ → Ring → Ring → List ℕ → Reply
-replyBy k ring kept buffer = cond (eqb k 0) (servedReply ring buffer) (refusedReply k kept buffer)
-
+-- the reply of refusal k
 module _ (k : ℕ) (ring kept : Ring) (buffer : List ℕ) where
   abbrev reply : Reply
   reply = replyBy k ring kept buffer

@@ -98,7 +98,8 @@ module _ (n : ℕ) (H : PartHealth) (ws : List Path) (ends : (w : Path) → w �
       (λ v mv. all-of (apart v) ws (λ w mw. go v w mv mw (dec (connected n (countedClosed n H ws) (v .source) (w .source)))))
     where
       go : (v w : Path) → v ∈ ws → w ∈ ws
-          → (connected n (countedClosed n H ws) (v .source) (w .source) ≡ true) ⊎ (connected n (countedClosed n H ws) (v .source) (w .source) ≡ false)
+          → (connected n (countedClosed n H ws) (v .source) (w .source) ≡ true) ⊎
+          (connected n (countedClosed n H ws) (v .source) (w .source) ≡ false)
           → apart v w ≡ true
       go v w mv mw (inl p) =
           or-left (eqb (v .source) (w .source)) _

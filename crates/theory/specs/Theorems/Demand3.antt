@@ -318,9 +318,11 @@ module _ (n : ℕ) (buffer : List ℕ) (begun : isServed (startReply n buffer) �
       → Answered (Meets n (W .plant) call) (W .ring) (lent call) (replyTo controller (W .ring) call)
   call-answered (step r lending) h = step-answered big small (steady h) r lending
 
-  in-call-free : (W : World) {before : Calls} {P : PlantState} (call : Call) {ph : Phases} {rest : List Operation} → Ended controller n buffer before W
+  in-call-free : (W : World) {before : Calls} {P : PlantState} (call : Call) {ph : Phases} {rest : List Operation}
+      → Ended controller n buffer before W
       → isServed (replyTo controller (W .ring) call) ≡ true → decode n (replyTo controller (W .ring) call .buffer) ≡ some ph
-      → Moment ph (afterWords (words call) (W .plant)) rest P → excepted (words call) rest ≡ false → (b : ℕ) → b < n → Single n (P .health) (P .last) b
+      → Moment ph (afterWords (words call) (W .plant)) rest P → excepted (words call) rest ≡ false → (b : ℕ) → b < n
+      → Single n (P .health) (P .last) b
   in-call-free W call h e d m u =
       call-free (W .plant) (words call) (replyTo controller (W .ring) call) (as-planned h) (call-replied call h e) d m u
 
