@@ -25,17 +25,13 @@ fn read_file(file: &mut [u8]) -> Input
         let got = libc::read(STDIN_FILENO, &mut file[size..]);
         let more = io::count(got, &file[size..]);
         if more == 0 {
-            return Input {
-                size,
-                failed: got < 0,
-            };
+            let failed = got < 0;
+            return Input { size, failed };
         }
         size += more;
     }
-    Input {
-        size,
-        failed: false,
-    }
+    let failed = false;
+    Input { size, failed }
 }
 
 // Prints the run of a file, and answers whether all of it could be written.

@@ -275,12 +275,12 @@ module _ {f before after : List ℕ} {ring : Ring} {size : ℕ} {p : RunPiece} w
       })
 
   -- behind it line i, of the ring that was told i reports
-  pub passed-line : (i k lines : ℕ) → fileRefusal f ≡ 0 → i ≤ fileCount f → k ≡ i + 1 → lines ≡ fileCount f + 2
-      → Shown i (runRing f i) before after ring size
-      → p ≡ record { cursor = record { place = k + 1; ring = ring }; length = size; more = ltb (k + 1) lines } → Passed f k before after p
+  pub passed-line : (i k next lines : ℕ) → fileRefusal f ≡ 0 → i ≤ fileCount f → Shown i (runRing f i) before after ring size
+      → p ≡ record { cursor = record { place = next; ring = ring }; length = size; more = ltb (k + 1) lines }
+      → k ≡ i + 1 → next ≡ k + 1 → lines ≡ fileCount f + 2 → Passed f k before after p
   unfolding cursorAt stateAt
-  passed-line i k lines served h e l s is =
-      rw (is, add-one, e, add-one) (record {
+  passed-line i k next lines served h s is e a l =
+      rw (is, a, add-one, e, add-one) (record {
         cursor = rw (s .state);
         stored = rw (line-at f served i h) (s .stored);
         some = omega (arith, s .stored .sized, line-some i (runRing f i));

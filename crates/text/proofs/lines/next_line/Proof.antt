@@ -48,8 +48,8 @@ returns-2 : tie.Need-returns-2
 unfolding runRing
 returns-2 c =
     let d = c .before .before .before .before .before .before .before in
-    passed-line 0 _ _ (behind d .0) (omega arith) (omega arith) (omega (arith, behind d .1 .whole))
-    (c .before .before .before .start-line .ensures) (c .piece-of .ensures)
+    passed-line 0 _ _ _ (behind d .0) (omega arith) (c .before .before .before .start-line .ensures) (c .piece-of .ensures)
+    (omega arith) (omega arith) (omega (arith, behind d .1 .whole))
 
 report-line-requires : tie.Need-report-line-requires
 report-line-requires c κs =
@@ -60,10 +60,9 @@ report-line-requires c κs =
 returns-3 : tie.Need-returns-3
 returns-3 c =
     let d = c .before .before .before .before .before .before in
-    let s = d .before .before .before .before in
-    passed-line (s .args .cursor .place - 2 + 1) _ _ (behind d .0) (omega (arith, behind d .2)) (omega arith)
-    (omega (arith, behind d .1 .whole))
-    (c .before .before .before .report-line .ensures) (c .piece-of2 .ensures)
+    let i = d .before .before .before .before .args .cursor .place - 2 + 1 in
+    passed-line i _ _ _ (behind d .0) (omega (arith, behind d .2)) (c .before .before .before .report-line .ensures)
+    (c .piece-of2 .ensures) (omega arith) (omega arith) (omega (arith, behind d .1 .whole))
 
 pub next-line-spec : {M : Type 1} → statement M
 next-line-spec =
