@@ -106,7 +106,22 @@ module _ (a b : ℕ) where
   same-not e = eqb-true a b (not-false _ e)
 
 -- what the outcome of a test says of its numbers, for `omega`: however the test is worded
-pub ruleset facts = (ltb-true, ltb-false, leb-true, leb-false, eqb-true, eqb-false, not-less, less-not, not-most, most-not, not-same, same-not, true-false, false-true)
+pub ruleset facts = (
+  ltb-true,
+  ltb-false,
+  leb-true,
+  leb-false,
+  eqb-true,
+  eqb-false,
+  not-less,
+  less-not,
+  not-most,
+  most-not,
+  not-same,
+  same-not,
+  true-false,
+  false-true,
+)
 
 -- one index more below a bound: what is picked at another index stays, and at that index it is the first
 module _ {A : Type 0} (x y : A) where
