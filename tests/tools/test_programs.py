@@ -3,6 +3,7 @@ import os
 import subprocess
 import sys
 import tempfile
+import time
 import unittest
 
 from support import make_vectors, path, program, read, run, stored_runs, tool
@@ -18,6 +19,15 @@ class Programs(unittest.TestCase):
             self.assertEqual((answer.out, answer.said, answer.status), (text, "", 0), data)
             count += 1
         self.assertEqual(read("crates", "vectors", "stdout"), b"%d cases, 0 differ\n" % count)
+
+    def test_input_in_portions(self):
+        """A file may come in any number of reads: here in two, one byte and the rest."""
+        data, text = max(stored_runs(), key=lambda run: len(run[1]))
+        running = subprocess.Popen([path("target", "bin", "ringctl")], stdin=subprocess.PIPE, stdout=subprocess.PIPE)
+        running.stdin.write(data[:1])
+        running.stdin.flush()
+        time.sleep(0.2)
+        self.assertEqual(running.communicate(data[1:])[0], text)
 
     def test_the_program_says_what_it_cannot_do(self):
         with open("/dev/full", "wb") as full:

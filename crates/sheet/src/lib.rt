@@ -126,17 +126,13 @@ fn phases(
 }
 
 // Stores the first `count` codes from `at` on, and answers the place behind them.
-fn copy(codes: &[u8; 60], count: usize, buffer: &mut [u8], at: usize) -> usize
-    requires held { ⌜ length (now codes) ≡ 60 ⌝ }
-    requires most { ⌜ count ≤ 60 ⌝ }
+fn copy(codes: &[u8], count: usize, buffer: &mut [u8], at: usize) -> usize
+    requires held { ⌜ count ≤ length (now codes) ⌝ }
     requires room { ⌜ at + count ≤ length (now buffer) ⌝ }
     ensures stored { λ r. ⌜ Appended (take count (now (codes .entry))) (now (buffer .entry)) at (now (buffer .exit)) r ⌝ }
     ensures behind { λ r. ⌜ r ≡ at + count ⌝ }
 {
-    for i in 0..count {
-        buffer[at + i] = codes[i];
-    }
-    at + count
+    appending::append(&codes[..count], buffer, at)
 }
 
 // Stores a command in each place from `from` to before `to`.

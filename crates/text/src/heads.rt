@@ -9,23 +9,12 @@ ghost use Rattle.model.specs.Text.{lineRoom};
 ghost use Rattle.model.specs.Laws.Appended.{Appended};
 use crate::numbers::append_number;
 
-// A text as it is.
-fn append_text(text: &[u8], out: &mut [u8], at: usize) -> usize
-    requires { ⌜ at + length (now text) ≤ length (now out) ⌝ }
-    ensures { λ r. ⌜ Appended (now (text .entry)) (now (out .entry)) at (now (out .exit)) r ⌝ }
-{
-    for i in 0..text.len() {
-        out[at + i] = text[i];
-    }
-    at + text.len()
-}
-
 // A text and a number behind it.
 fn append_labelled(text: &[u8], k: usize, out: &mut [u8], at: usize) -> usize
     requires { ⌜ (k < 10000) × (at + length (now text) + 4 ≤ length (now out)) ⌝ }
     ensures { λ r. ⌜ Appended (now (text .entry) ++ decimal k) (now (out .entry)) at (now (out .exit)) r ⌝ }
 {
-    let number = append_text(text, out, at);
+    let number = appending::append(text, out, at);
     append_number(k, out, number)
 }
 

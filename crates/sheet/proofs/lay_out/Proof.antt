@@ -14,10 +14,10 @@ use Rattle.sheet.proofs.lay_out.Tie as tie
 
 -- what was known before the first, second, third and last call
 abbrev first : tie.After-copy → tie.Start
-first d = d .before .before .before
+first d = d .before .before .before .before
 
 abbrev second : tie.After-copy2 → tie.After-copy
-second d = d .before .before .before .before
+second d = d .before .before .before .before .before
 
 abbrev third : tie.After-fill → tie.After-copy2
 third d = d .before .before .before .before
@@ -36,7 +36,7 @@ copy-requires : tie.Need-copy-requires
 copy-requires c κs = simp length-set (omega arith)
 
 copy-requires-2 : tie.Need-copy-requires-2
-copy-requires-2 c κs = let d = c .before .before .before in omega (arith, sized d, d)
+copy-requires-2 c κs = let d = c .before .before .before .before in omega (arith, sized d, d)
 
 fill-requires : tie.Need-fill-requires
 fill-requires c κs = let e = c .before .before .before in let d = second e in omega (arith, sized d, d, e)

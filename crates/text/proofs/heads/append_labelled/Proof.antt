@@ -11,5 +11,5 @@ append-labelled-spec =
     (λ c κs. search needs)
     (λ c κs. search needs)
     (λ c. search needs)
-    (λ c. appended-more (c .before .before .before .before .before .before .append-text .ensures)
+    (λ c. appended-more (c .before .before .before .before .before .before .append .ensures)
     (c .before .before .append-number .ensures)))
