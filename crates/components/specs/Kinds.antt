@@ -9,7 +9,7 @@ use Rattle.model.specs.declared.Part.{Part}
 use Rattle.model.specs.declared.Part.the-variants.{Generator, GeneratorBreaker, BusBreaker}
 use Rattle.model.specs.declared.Health.{Health}
 use Rattle.model.specs.Values.{number}
-use Rattle.model.specs.Plant.{PartHealth, largest, parts, healthOfKind, InRing}
+use Rattle.model.specs.Plant.{largest, parts, healthOfKind, InRing}
 use Rattle.model.specs.Reports.{healthOf}
 use Rattle.model.specs.Refusals.{healthOutside}
 use Rattle.model.specs.Laws.Tests.{not-of, dec-lt}

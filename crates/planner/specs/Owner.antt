@@ -18,8 +18,7 @@ use Rattle.model.specs.Laws.Lists.{all-cons, first-at, first-in, first-ext}
 use Rattle.theory.specs.Proofs.Geometry.{next-lt, up-refl, up-next-right}
 use Rattle.theory.specs.Theorems.Connected.{Near, leads-mono, leads-trans, leads-sym, arc-leads, connected-leads, leads-connected, leads-split}
 use Rattle.theory.specs.Proofs.Paths.{lower, upper, Ends, lower-lt, upper-lt, path-at, path-in, tried-at}
-use Rattle.theory.specs.Proofs.Choosing.{Isolated, counted-stuck, counted-in, counted-at, counted-cons}
-use Rattle.theory.specs.Proofs.Choosing.{Safe, safe-cons, permitted-at, permitted-of}
+use Rattle.theory.specs.Proofs.Choosing.{Isolated, counted-stuck, counted-in, counted-at, counted-cons, Safe, safe-cons, permitted-at, permitted-of}
 use Rattle.planner.specs.Walk.{free, clear, Between, clear-at, clear-of}
 
 -- the number of a path's generator

@@ -9,7 +9,7 @@ use Prim.Native.Nat.{ℕ, zero, suc, _+_, _≤_, _<_}
 use native.Mathlib.Omega.{arith}
 use native.Mathlib.Numerals.{add-one}
 use lib.Dec.{ltb, eqb}
-use lib.ListN.{getD, set, replicate, length-replicate, getD-replicate}
+use lib.ListN.{set, replicate, length-replicate, getD-replicate}
 use borrow.Author.Tests.{lt-ltb, le-ltb, eqb-true, eq-eqb}
 use Rattle.model.specs.declared.Part.{Part}
 use Rattle.model.specs.declared.Choice.{Choice}
@@ -19,7 +19,7 @@ use Rattle.model.specs.declared.Health.{Health}
 use Rattle.model.specs.declared.Commands.{Commands}
 use Rattle.model.specs.Lists.{first, anyOf, _∈_}
 use Rattle.model.specs.Values.{samePart}
-use Rattle.model.specs.Plant.{PartHealth, largest, generator, generatorBreaker, busBreaker, stuckClosed}
+use Rattle.model.specs.Plant.{PartHealth, largest, generator, generatorBreaker, busBreaker}
 use Rattle.model.specs.Priority.{Path, pathParts, paths}
 use Rattle.model.specs.Choosing.{onPaths, countedClosed, permitted, choose, addPath, chosen, plan, commands, choiceOf, choices}
 use Rattle.model.specs.Reports.{places, healthOf, commandPlaces}
@@ -27,8 +27,8 @@ use Rattle.model.specs.Laws.Tests.{iff, dec, dec-lt, below-other, below-last}
 use Rattle.model.specs.Laws.Lists.{any-at, any-in, first-at, first-ext}
 use Rattle.model.specs.Laws.Parts.{same-eq, same-refl, places-at, places-ext, places-set, set-places, is-places}
 use Rattle.theory.specs.Theorems.Connected.{connected-ext}
-use Rattle.theory.specs.Proofs.Paths.{Ends, path-at, path-in, source-on, breaker-on, line-on, generator-on, generator-breaker-on, bus-breaker-on}
-use Rattle.theory.specs.Proofs.Paths.{pathTo, tried-at}
+use Rattle.theory.specs.Proofs.Paths.{Ends, path-at, path-in, source-on, breaker-on, line-on, generator-on, generator-breaker-on, bus-breaker-on, pathTo}
+use Rattle.theory.specs.Proofs.Paths.{tried-at}
 use Rattle.theory.specs.Proofs.Choosing.{safe-chosen, chosen-ends}
 use Rattle.planner.specs.declared.progress.Progress.{Progress}
 use Rattle.planner.specs.declared.search.Span.{Span}

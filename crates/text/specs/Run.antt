@@ -1,8 +1,8 @@
 -- The run of a file that is served: its lines, its reports and its ring states. Reports are counted from 0.
 use mathlib.Core.Path.{_≡_, refl, sym, _∙_, ap}
-use mathlib.Core.Bool.{Bool, true, false, not, _&&_, cond}
+use mathlib.Core.Bool.{Bool, true, false, not, cond}
 use mathlib.Core.Logic.{_⊎_, inl, inr, _≢_}
-use mathlib.Core.List.{List, [], _∷_, map}
+use mathlib.Core.List.{List, [], _∷_}
 use Prim.Native.Nat.{ℕ, zero, suc, _+_, _-_, _*_, _/_, _≤_, _<_}
 use native.Mathlib.Numerals.{add-one, add-two}
 use native.Mathlib.Omega.{arith}
@@ -13,18 +13,17 @@ use borrow.Author.Tests.{eqb-true, ltb-false, lt-ltb, ne-eqb, not-false}
 use Rattle.model.specs.declared.Report.{Report}
 use Rattle.model.specs.declared.Ring.{Ring}
 use Rattle.model.specs.declared.ReportAnswer.{ReportAnswer}
-use Rattle.model.specs.declared.ReportAnswer.the-variants.{Read, Refused, Missing}
+use Rattle.model.specs.declared.ReportAnswer.the-variants.{Read, Refused}
 use Rattle.model.specs.declared.FileAnswer.the-variants as file
 use Rattle.model.specs.declared.RunCursor.{RunCursor}
 use Rattle.model.specs.declared.RunPiece.{RunPiece}
 use Rattle.model.specs.Lists.{below}
 use Rattle.model.specs.Plant.{smallest, largest}
 use Rattle.model.specs.Reports.{fileSize, fileCount, fileCodes, fileWords, blankRing, told, withPlan}
-use Rattle.model.specs.Refusals.{firstMet, orElse, sizeOutside, reportConditions}
-use Rattle.model.specs.Refusals.{reportAnswer, reportRefusal, reportsRefusal, fileRefusal, badRecord}
+use Rattle.model.specs.Refusals.{firstMet, orElse, sizeOutside, reportConditions, reportAnswer, reportRefusal, reportsRefusal, fileRefusal, badRecord}
 use Rattle.model.specs.Answers.{reportAt, fileAnswer}
-use Rattle.model.specs.Text.{ascii, header, refusedText, line, transitionLine, toldAnswer, runRing, servedLines, refusedLines, runLines}
-use Rattle.model.specs.Text.{printedRun, runLeft, stateAt, cursorAt, Within}
+use Rattle.model.specs.Text.{ascii, header, refusedText, line, transitionLine, toldAnswer, runRing, servedLines, refusedLines, runLines, printedRun, runLeft}
+use Rattle.model.specs.Text.{stateAt, cursorAt, Within}
 use Rattle.model.specs.Laws.Tests.{dec-eq}
 use Rattle.model.specs.Laws.Lists.{below-length, map-below-at}
 use Rattle.model.specs.Laws.Reports.{ReadOrRefused, read-or-refused}

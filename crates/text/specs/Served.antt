@@ -4,7 +4,7 @@ use mathlib.Core.Bool.{false}
 use mathlib.Core.Logic.{inl, inr}
 use mathlib.Core.List.{List}
 use mathlib.Core.Option.{Option, none, some}
-use Prim.Native.Nat.{ℕ, _+_, _*_, _≤_, _<_}
+use Prim.Native.Nat.{ℕ, _+_, _*_, _≤_}
 use native.Mathlib.Omega.{arith}
 use lib.ListN.{length, replicate, length-replicate}
 use borrow.Author.Tests.{le-ltb}
@@ -30,7 +30,7 @@ use Rattle.theory.specs.Statements.Records.{started}
 use Rattle.theory.specs.Theorems.Records.{step-good, made-good}
 use Rattle.text.specs.Buses.{AllNamed, Named}
 use Rattle.text.specs.SheetLine.{SheetBytes, sheetLine, sheet-is, sheet-line}
-use Rattle.text.specs.Lines.{Stored, Shown}
+use Rattle.text.specs.Lines.{Shown}
 
 -- ---- the answer and the sheet of a transition
 

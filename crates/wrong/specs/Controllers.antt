@@ -19,40 +19,36 @@ use Rattle.model.specs.Lists.{allOf, _∈_, below, keep, first, anyOf}
 use Rattle.model.specs.Plant.{busFeed, parts, healthOfKind, next, up, arc, connected, feeds, feeders, feedBy}
 use Rattle.model.specs.Choosing.{choices, onPaths, usable, countedClosed, isolated, permitted, choose, addPath, chosen, plan, commands, choiceOf}
 use Rattle.model.specs.Sheet.{written, opening, closing, sheetOf, sheet}
-use Rattle.model.specs.Reports.{allFit, blankRing, told, partNamed, reported, places, healthOf, commandsOf, healthPlaces, commandPlaces, planned}
-use Rattle.model.specs.Reports.{withPlan}
+use Rattle.model.specs.Reports.{allFit, blankRing, told, partNamed, reported, places, healthOf, commandsOf, healthPlaces, commandPlaces, planned, withPlan}
 use Rattle.model.specs.Answers.{Reply, refusedReply, servedReply, startReply, allDark, refusedAnswer, servedAnswer, stepReply}
 use Rattle.model.specs.Laws.Lists.{all-at}
 use Rattle.model.specs.Laws.Refusals.{served-refused}
-use Rattle.theory.specs.Statements.Demand3.{Controller, PlantState, operation, decode, step, Calls, nothing, _then_, whole, in-first, in-call}
-use Rattle.theory.specs.Statements.Demand3.{excepted, Interrupted, StartMeets, too-small, too-large, too-short, Demand3, afterWord, afterWords}
-use Rattle.theory.specs.Statements.Demand3.{perform, performAll, commandNamed, withOperation, operations, phasesAt, wordRefusal}
+use Rattle.theory.specs.Statements.Demand3.{Controller, PlantState, operation, decode, step, Calls, nothing, _then_, whole, in-first, in-call, excepted}
+use Rattle.theory.specs.Statements.Demand3.{Interrupted, StartMeets, too-small, too-large, too-short, Demand3, afterWord, afterWords, perform, performAll}
+use Rattle.theory.specs.Statements.Demand3.{commandNamed, withOperation, operations, phasesAt, wordRefusal}
 use Rattle.theory.specs.Theorems.Demand3.{controller, demand3}
 use Rattle.theory.specs.Statements.Demand2.{Demand2, earlier}
 use Rattle.theory.specs.Theorems.Demand2.{demand2}
 use Rattle.theory.specs.Refuting.Claims as claim
-use Rattle.theory.specs.Refuting.Claims.{Instance, Claim3, Claim2, fails3, fails2, extraOpen, extraClose, hasOperation, otherOutcome, rises, sum}
-use Rattle.theory.specs.Refuting.Claims.{digest, ringSum, choiceNumber, choicesSum, operationNumber, operationsDigest, isDark, feedNumber, isClash}
-use Rattle.theory.specs.Refuting.Claims.{onWorld, onPhases, due, refusedInVain, notRefused, recordChanged, bufferChanged, choicesLit, behindChanged}
-use Rattle.theory.specs.Refuting.Claims.{lengthChanged, darkThoughReached, litThoughUnreached, litByAnother, darkThoughFed, otherHealth, otherCommand}
-use Rattle.theory.specs.Refuting.Claims.{unfitAbove, onAbove, anyClash, otherChoice, newCommands, otherFirst, otherSecond, clashInFirst}
-use Rattle.theory.specs.Refuting.Claims.{clashInSecond, startOf, firstReply, startDue, atCall, atServed, atPhases, atStart, atEnd}
+use Rattle.theory.specs.Refuting.Claims.{Instance, Claim3, Claim2, fails3, fails2, extraOpen, extraClose, hasOperation, otherOutcome, rises, sum, digest}
+use Rattle.theory.specs.Refuting.Claims.{ringSum, choiceNumber, choicesSum, operationNumber, operationsDigest, isDark, feedNumber, isClash, onWorld, onPhases}
+use Rattle.theory.specs.Refuting.Claims.{due, refusedInVain, notRefused, recordChanged, bufferChanged, choicesLit, behindChanged, lengthChanged}
+use Rattle.theory.specs.Refuting.Claims.{darkThoughReached, litThoughUnreached, litByAnother, darkThoughFed, otherHealth, otherCommand, unfitAbove, onAbove}
+use Rattle.theory.specs.Refuting.Claims.{anyClash, otherChoice, newCommands, otherFirst, otherSecond, clashInFirst, clashInSecond, startOf, firstReply}
+use Rattle.theory.specs.Refuting.Claims.{startDue, atCall, atServed, atPhases, atStart, atEnd}
+use Rattle.theory.specs.Proofs.Answering.{fullRoom}
 use Rattle.theory.specs.Refuting.Runs.{run-ended, ordered, bothPhases, worldAfter, afterCall, run}
 use Rattle.theory.specs.Refuting.Refuted.{refutes3, refutes2}
-use Rattle.wrong.specs.Designs.{designController, right, right-is, startSpoilt, stepSpoilt, whenRefused, whenServed, withRing, withChoices}
-use Rattle.wrong.specs.Designs.{withBuffer, allBusesDark, givesUp, emptyPhases, repeatsStart, onePlan, miscounts, oneWave, wavesExchanged}
-use Rattle.wrong.specs.Designs.{stuckClosedOpen, breakerBehind, highFirst, designCommands, designSheet, designChoices, designServed, designBad}
-use Rattle.wrong.specs.Designs.{designStart, designStep, chosenBy, trying, planningFor, writing, closingsFirst}
+use Rattle.wrong.specs.Designs.{designController, right, right-is, startSpoilt, stepSpoilt, whenRefused, whenServed, withRing, withChoices, withBuffer}
+use Rattle.wrong.specs.Designs.{allBusesDark, givesUp, emptyPhases, repeatsStart, onePlan, miscounts, oneWave, wavesExchanged, stuckClosedOpen}
+use Rattle.wrong.specs.Designs.{breakerBehind, highFirst, designCommands, designSheet, designChoices, designServed, designBad, designStart, designStep}
+use Rattle.wrong.specs.Designs.{chosenBy, trying, planningFor, writing, closingsFirst}
 use Rattle.model.specs.Values.{partCode, samePart}
 use Rattle.model.specs.Priority.{others, sources, pathBusBreakers, pathBreakers, pathParts, highRises, pathsFrom, paths}
-use Rattle.model.specs.Refusals.{firstMet, sizeOutside, notOfRing, wordOfOtherKind, generatorFitAgain, tooShort, healthOutside, activeAbove}
-use Rattle.model.specs.Refusals.{unplanned, badRecord, nextSheet, reportConditions, startRefusal, stepRefusal}
+use Rattle.model.specs.Refusals.{firstMet, sizeOutside, notOfRing, wordOfOtherKind, generatorFitAgain, tooShort, healthOutside, activeAbove, unplanned}
+use Rattle.model.specs.Refusals.{badRecord, nextSheet, reportConditions, startRefusal, stepRefusal}
 
 -- ---- the calls that show it
-
--- the longest sheet's room
-unfoldable pub room : List ℕ
-room = replicate 122 0
 
 -- a report of a part and a word
 abbrev report : Part → Word → Report
@@ -97,19 +93,19 @@ breaker2Fit = report (BusBreaker 2) Fit
 -- the calls of some reports, the last first
 unfoldable pub callsOf : List Report → Calls
 callsOf [] = nothing
-callsOf (r ∷ rs) = callsOf rs then step r room
+callsOf (r ∷ rs) = callsOf rs then step r fullRoom
 
 -- a start of n with a buffer
 unfoldable pub starting : ℕ → List ℕ → Instance
-starting n buffer = record { size = n; lending = buffer; calls = nothing; call = step generator1Off room; backward = false; done = 0 }
+starting n buffer = record { size = n; lending = buffer; calls = nothing; call = step generator1Off fullRoom; backward = false; done = 0 }
 
 -- a ring of three that was handed some reports, the last first, and then a report with a buffer
 unfoldable pub handed : List Report → Report → List ℕ → Instance
-handed rs r buffer = record { size = 3; lending = room; calls = callsOf rs; call = step r buffer; backward = false; done = 0 }
+handed rs r buffer = record { size = 3; lending = fullRoom; calls = callsOf rs; call = step r buffer; backward = false; done = 0 }
 
 -- .. with room for every sheet
 abbrev pub after : List Report → Report → Instance
-after rs r = handed rs r room
+after rs r = handed rs r fullRoom
 
 -- interrupted after k operations of a phase
 unfoldable pub halted : ℕ → Instance → Instance
@@ -225,31 +221,31 @@ wrongDesigns =
     ∷ row (designController emptyPhases) claim.energized (after [] generator1Off)
     ∷ row (designController repeatsStart) claim.energized (after (generator4Off ∷ []) generator1Off)
     ∷ row (designController onePlan) claim.choices-are (after [] breaker2Open)
-    ∷ row (designController miscounts) claim.start-second (starting 3 room)
+    ∷ row (designController miscounts) claim.start-second (starting 3 fullRoom)
     ∷ row (designController oneWave) claim.clash-in-first (halted 1 (after (breaker2Open ∷ []) breaker2Fit))
     ∷ row (designController wavesExchanged) claim.clash-in-first (halted 1 (after (breaker2Open ∷ []) breaker2Fit))
     ∷ row (designController stuckClosedOpen) claim.clash-between (after [] breaker1Closed)
-    ∷ row (designController breakerBehind) claim.clash-in-start-second (halted 6 (starting 3 room))
-    ∷ row (designController highFirst) claim.start-chosen (starting 5 room)
+    ∷ row (designController breakerBehind) claim.clash-in-start-second (halted 6 (starting 3 fullRoom))
+    ∷ row (designController highFirst) claim.start-chosen (starting 5 fullRoom)
     ∷ []
 
 -- starts that are refused in vain, or not refused; what a refused start alters; what a served one does
 unfoldable pub wrongStarts : List Row3
 wrongStarts =
-    row refusesStarts claim.start-only (starting 3 room)
-    ∷ row servesStarts claim.start-always (starting 2 room)
+    row refusesStarts claim.start-only (starting 3 fullRoom)
+    ∷ row servesStarts claim.start-always (starting 2 fullRoom)
     ∷ row servesStarts claim.start-always (starting 3 (replicate 11 0))
-    ∷ row (startRefusing (withRing (λ ring. blankRing 3))) claim.start-record-kept (starting 2 room)
-    ∷ row (startRefusing (withBuffer firstByte)) claim.start-buffer-kept (starting 2 room)
-    ∷ row (startRefusing fitChoices) claim.start-choices-dark (starting 2 room)
-    ∷ row (startServing (withBuffer lastByte)) claim.start-behind-kept (starting 3 room)
-    ∷ row (startServing (withBuffer oneMore)) claim.start-length-kept (starting 3 room)
-    ∷ row (startServing noChoices) claim.start-chosen (starting 3 room)
-    ∷ row (startWrites 5 0 ((0, 1) ∷ (1, 1) ∷ (32, 1) ∷ (33, 1) ∷ (65, 1) ∷ [])) claim.start-first (starting 3 room)
-    ∷ row (startWrites 0 5 ((65, 1) ∷ (1, 1) ∷ (32, 1) ∷ (33, 1) ∷ (0, 1) ∷ [])) claim.start-second (starting 3 room)
-    ∷ row (startWrites 0 1 ((99, 1) ∷ [])) claim.ends (starting 3 room)
-    ∷ row (startWrites 7 0 ((0, 1) ∷ (1, 1) ∷ (32, 1) ∷ (33, 1) ∷ (65, 1) ∷ (64, 1) ∷ (64, 0) ∷ [])) claim.clash-in-start-first (halted 6 (starting 3 room))
-    ∷ row (startWrites 0 7 ((0, 1) ∷ (1, 1) ∷ (32, 1) ∷ (33, 1) ∷ (65, 1) ∷ (64, 1) ∷ (64, 0) ∷ [])) claim.clash-in-start-second (halted 6 (starting 3 room))
+    ∷ row (startRefusing (withRing (λ ring. blankRing 3))) claim.start-record-kept (starting 2 fullRoom)
+    ∷ row (startRefusing (withBuffer firstByte)) claim.start-buffer-kept (starting 2 fullRoom)
+    ∷ row (startRefusing fitChoices) claim.start-choices-dark (starting 2 fullRoom)
+    ∷ row (startServing (withBuffer lastByte)) claim.start-behind-kept (starting 3 fullRoom)
+    ∷ row (startServing (withBuffer oneMore)) claim.start-length-kept (starting 3 fullRoom)
+    ∷ row (startServing noChoices) claim.start-chosen (starting 3 fullRoom)
+    ∷ row (startWrites 5 0 ((0, 1) ∷ (1, 1) ∷ (32, 1) ∷ (33, 1) ∷ (65, 1) ∷ [])) claim.start-first (starting 3 fullRoom)
+    ∷ row (startWrites 0 5 ((65, 1) ∷ (1, 1) ∷ (32, 1) ∷ (33, 1) ∷ (0, 1) ∷ [])) claim.start-second (starting 3 fullRoom)
+    ∷ row (startWrites 0 1 ((99, 1) ∷ [])) claim.ends (starting 3 fullRoom)
+    ∷ row (startWrites 7 0 ((0, 1) ∷ (1, 1) ∷ (32, 1) ∷ (33, 1) ∷ (65, 1) ∷ (64, 1) ∷ (64, 0) ∷ [])) claim.clash-in-start-first (halted 6 (starting 3 fullRoom))
+    ∷ row (startWrites 0 7 ((0, 1) ∷ (1, 1) ∷ (32, 1) ∷ (33, 1) ∷ (65, 1) ∷ (64, 1) ∷ (64, 0) ∷ [])) claim.clash-in-start-second (halted 6 (starting 3 fullRoom))
     ∷ []
 
 -- steps that are refused in vain, or not refused; what a refused step alters, and a served one behind its sheet
@@ -327,7 +323,7 @@ unfolding below keep first anyOf allOf partCode samePart parts healthOfKind next
     anyClash otherChoice newCommands otherFirst otherSecond clashInFirst clashInSecond startOf firstReply startDue atCall atServed atPhases atStart
     atEnd fails3 designCommands designSheet designChoices designServed designBad designStart designStep designController right chosenBy
     trying planningFor writing allBusesDark givesUp emptyPhases repeatsStart onePlan miscounts closingsFirst oneWave wavesExchanged
-    stuckClosedOpen breakerBehind highFirst startSpoilt stepSpoilt whenRefused whenServed withRing withChoices withBuffer room callsOf
+    stuckClosedOpen breakerBehind highFirst startSpoilt stepSpoilt whenRefused whenServed withRing withChoices withBuffer fullRoom callsOf
     starting handed halted reversed sheetWith startRefusing startServing stepRefusing stepServing startWrites stepWrites refusesTwenty
     refusesStarts refusesReports servesStarts servesReports fitChoices noChoices wrongDesigns wrongStarts wrongRefusals wrongSteps
     wrongMoments wrongs3 refuted3 flatMap
@@ -345,7 +341,7 @@ right-fails-none-3 i k = rw right-is (none-true (fails3 controller i k) (refutes
 -- nor one that is wrong at the largest ring alone, or above it
 none-meets-20 : Demand3 refusesTwenty → ⊥
 unfolding refusesTwenty startSpoilt refusedReply refusedAnswer
-none-meets-20 d = five (d .start-answered 20 room .only 5 refl)
+none-meets-20 d = five (d .start-answered 20 fullRoom .only 5 refl)
   where
     five : {n k : ℕ} → StartMeets n k 5 → ⊥
     five {n} {k} m = go m refl
@@ -357,7 +353,7 @@ none-meets-20 d = five (d .start-answered 20 room .only 5 refl)
 
 none-meets-21 : Demand3 servesStarts → ⊥
 unfolding servesStarts startSpoilt servedReply servedAnswer
-none-meets-21 d = served-refused refl (d .start-answered 21 room .always 2 (too-large (omega arith)))
+none-meets-21 d = served-refused refl (d .start-answered 21 fullRoom .always 2 (too-large (omega arith)))
 
 -- ---- demand 2: likewise
 
@@ -372,14 +368,14 @@ row2 c k i = record { wrong = c; claim = k; shows = i }
 -- those that document 01 holds against demand 2, and a wrong controller for every claim of it
 unfoldable pub wrongs2 : List Row2
 wrongs2 =
-    row2 (designController allBusesDark) claim.start-path (starting 3 room)
-    ∷ row2 (designController givesUp) claim.start-path (starting 3 room)
+    row2 (designController allBusesDark) claim.start-path (starting 3 fullRoom)
+    ∷ row2 (designController givesUp) claim.start-path (starting 3 fullRoom)
     ∷ row2 (designController emptyPhases) claim.all-close (after [] breaker2Open)
     ∷ row2 (designController repeatsStart) claim.call-path (after [] generator1Off)
     ∷ row2 (designController onePlan) claim.call-path (after [] breaker2Open)
     ∷ row2 (designController miscounts) claim.closes (after [] breaker1Closed)
-    ∷ row2 (designController highFirst) claim.start-path (starting 5 room)
-    ∷ row2 refusesStarts claim.start-answered (starting 3 room)
+    ∷ row2 (designController highFirst) claim.start-path (starting 5 fullRoom)
+    ∷ row2 refusesStarts claim.start-answered (starting 3 fullRoom)
     ∷ row2 refusesReports claim.call-answered (after [] generator1Off)
     ∷ row2 (stepWrites 2 1 ((64, 0) ∷ (65, 0) ∷ (66, 1) ∷ [])) claim.opens (after [] breaker2Open)
     ∷ row2 (stepWrites 0 1 ((66, 1) ∷ [])) claim.all-open (after [] breaker2Open)
@@ -406,7 +402,7 @@ unfolding below keep first anyOf allOf partCode samePart parts healthOfKind next
     anyClash otherChoice newCommands otherFirst otherSecond clashInFirst clashInSecond startOf firstReply startDue atCall atServed atPhases atStart
     atEnd fails3 designCommands designSheet designChoices designServed designBad designStart designStep designController right chosenBy
     trying planningFor writing allBusesDark givesUp emptyPhases repeatsStart onePlan miscounts closingsFirst oneWave wavesExchanged
-    stuckClosedOpen breakerBehind highFirst startSpoilt stepSpoilt whenRefused whenServed withRing withChoices withBuffer room callsOf
+    stuckClosedOpen breakerBehind highFirst startSpoilt stepSpoilt whenRefused whenServed withRing withChoices withBuffer fullRoom callsOf
     starting handed halted reversed sheetWith startRefusing startServing stepRefusing stepServing startWrites stepWrites refusesTwenty
     refusesStarts refusesReports servesStarts servesReports fitChoices noChoices flatMap fails2 extraOpen extraClose hasOperation
     otherOutcome rises wrongs2 refuted2
@@ -446,7 +442,7 @@ unfolding clashesNowhere below keep first anyOf allOf partCode samePart parts he
     anyClash otherChoice newCommands otherFirst otherSecond clashInFirst clashInSecond startOf firstReply startDue atCall atServed atPhases atStart
     atEnd fails3 designCommands designSheet designChoices designServed designBad designStart designStep designController right chosenBy
     trying planningFor writing allBusesDark givesUp emptyPhases repeatsStart onePlan miscounts closingsFirst oneWave wavesExchanged
-    stuckClosedOpen breakerBehind highFirst startSpoilt stepSpoilt whenRefused whenServed withRing withChoices withBuffer room callsOf
+    stuckClosedOpen breakerBehind highFirst startSpoilt stepSpoilt whenRefused whenServed withRing withChoices withBuffer fullRoom callsOf
     starting handed halted reversed sheetWith startRefusing startServing stepRefusing stepServing startWrites stepWrites refusesTwenty
     refusesStarts refusesReports servesStarts servesReports fitChoices noChoices flatMap
 in-sheet-order = refl
@@ -455,7 +451,7 @@ in-sheet-order = refl
 
 -- n = 3 after the start, BB1 stuck closed: before the first operation, at an excepted moment, B1 is fed by two generators
 exception-needed : (P : PlantState)
-    × Interrupted controller 3 room (nothing then step breaker1Closed room) P true
+    × Interrupted controller 3 fullRoom (nothing then step breaker1Closed fullRoom) P true
     × (busFeed 3 (P .health) (P .last) 0 ≡ feed.Clash 1 2)
 unfolding below keep first anyOf allOf partCode samePart parts healthOfKind next up arc connected feeds feeders feedBy busFeed others
     sources pathBusBreakers pathBreakers pathParts highRises pathsFrom paths onPaths usable countedClosed isolated permitted choose addPath
@@ -469,12 +465,12 @@ unfolding below keep first anyOf allOf partCode samePart parts healthOfKind next
     anyClash otherChoice newCommands otherFirst otherSecond clashInFirst clashInSecond startOf firstReply startDue atCall atServed atPhases atStart
     atEnd fails3 designCommands designSheet designChoices designServed designBad designStart designStep designController right chosenBy
     trying planningFor writing allBusesDark givesUp emptyPhases repeatsStart onePlan miscounts closingsFirst oneWave wavesExchanged
-    stuckClosedOpen breakerBehind highFirst startSpoilt stepSpoilt whenRefused whenServed withRing withChoices withBuffer room callsOf
+    stuckClosedOpen breakerBehind highFirst startSpoilt stepSpoilt whenRefused whenServed withRing withChoices withBuffer fullRoom callsOf
     starting handed halted reversed sheetWith startRefusing startServing stepRefusing stepServing startWrites stepWrites refusesTwenty
     refusesStarts refusesReports servesStarts servesReports fitChoices noChoices flatMap
 exception-needed = (
   _,
-  in-call (step breaker1Closed room) whole (run-ended controller false 3 room nothing _ refl) refl refl
+  in-call (step breaker1Closed fullRoom) whole (run-ended controller false 3 fullRoom nothing _ refl) refl refl
       (in-first [] (Permᴰ·refl _)),
   refl,
 )

@@ -1,5 +1,5 @@
 -- `components::health_outside` meets its contract. The loop's invariant: each part of the places passed has a health of its kind.
-use mathlib.Core.Path.{_≡_, sym, _∙_}
+use mathlib.Core.Path.{sym, _∙_}
 use Prim.Native.Nat.{_≤_, _-_}
 use native.Mathlib.Omega.{arith}
 use borrow.Author.Needs.{needs}

@@ -38,6 +38,10 @@ pub same-refl : (p : Part) → samePart p p ≡ true
 unfolding samePart
 same-refl p = and-intro (eqb (firstCode p) (firstCode p)) _ (eq-eqb (firstCode p) (firstCode p) refl) (eq-eqb (number p) (number p) refl)
 
+-- no part is of two kinds
+pub other-kind : {A : Type 0} {p q : Part} → p ≡ q → eqb (firstCode p) (firstCode q) ≡ false → A
+other-kind {p = p} {q} e f = contra (eq-eqb (firstCode p) (firstCode q) (ap firstCode e)) f
+
 -- ---- the parts of a ring
 
 -- the part at an index below n is one

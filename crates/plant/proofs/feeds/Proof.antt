@@ -1,5 +1,5 @@
 -- `plant::feeds` meets its contract: refused by 2, refused by 9, or served.
-use mathlib.Core.Path.{_≡_, sym, _∙_}
+use mathlib.Core.Path.{sym, _∙_}
 use borrow.Author.Needs.{needs}
 use Rattle.model.specs.Laws.Refusals.{size-bounds}
 use Rattle.plant.specs.Answer.{answered, size-refused, health-refused, served}

@@ -1,5 +1,5 @@
 -- `reports::check_file` meets its contract: the tests that lead to each return are those of the file's refusal.
-use mathlib.Core.Path.{_≡_, sym, _∙_}
+use mathlib.Core.Path.{sym, _∙_}
 use native.Mathlib.Omega.{arith}
 use borrow.Author.Needs.{needs}
 use Rattle.model.specs.Laws.Tests.{facts}

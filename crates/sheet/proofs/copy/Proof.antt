@@ -1,6 +1,5 @@
 -- `copy`: the first codes are appended as they stand.
 use mathlib.Core.Path.{_≡_, sym}
-use Prim.Native.Nat.{_+_}
 use native.Mathlib.Omega.{arith}
 use denote.Ref.{now}
 use lib.ListN.{length, take}

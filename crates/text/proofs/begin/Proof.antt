@@ -1,5 +1,4 @@
 -- `begin`: no line is passed, and every run has a first line.
-use mathlib.Core.Path.{refl}
 use borrow.Author.Needs.{needs}
 use Rattle.text.specs.Run.{at-beginning}
 use Rattle.text.proofs.begin.Statement.{statement}

@@ -6,9 +6,9 @@ use mathlib.Core.List.{List}
 use Prim.Native.Nat.{ℕ, zero, suc, _≤_, _<_, min}
 use native.Mathlib.Omega.{arith}
 use lib.Dec.{ltb, eqb}
-use lib.ListN.{length, drop, length-append, length-drop}
+use lib.ListN.{length, drop, replicate, length-append, length-drop, length-replicate}
 use lib.Seq.{drop-at}
-use borrow.Author.Tests.{ltb-true, ltb-false, eq-eqb, ne-eqb}
+use borrow.Author.Tests.{ltb-true, ltb-false, ne-eqb}
 use Rattle.model.specs.declared.Part.{Part}
 use Rattle.model.specs.declared.Part.the-variants.{Generator, GeneratorBreaker, BusBreaker}
 use Rattle.model.specs.declared.Word.{Word}
@@ -21,27 +21,18 @@ use Rattle.model.specs.Plant.{smallest, largest, allOff, InRing}
 use Rattle.model.specs.Choosing.{commands}
 use Rattle.model.specs.Sheet.{opening, closing, sheetOf, sheet, written}
 use Rattle.model.specs.Reports.{reported, allFit, healthOf, commandsOf, blankRing, told, planned}
-use Rattle.model.specs.Refusals.{firstMet, sizeOutside, notOfRing, wordOfOtherKind, generatorFitAgain, tooShort, nextSheet, reportConditions}
-use Rattle.model.specs.Refusals.{startRefusal, stepRefusal}
+use Rattle.model.specs.Refusals.{firstMet, sizeOutside, notOfRing, wordOfOtherKind, generatorFitAgain, tooShort, nextSheet, reportConditions, startRefusal}
+use Rattle.model.specs.Refusals.{stepRefusal}
 use Rattle.model.specs.Answers.{Reply, refusedAnswer, refusedReply, servedAnswer, servedReply, replyBy, startReply, stepReply}
 use Rattle.model.specs.Laws.Tests.{contra, dec, dec-eq, or-cases, or-none}
-use Rattle.model.specs.Laws.Refusals.{size-bounds}
+use Rattle.model.specs.Laws.Refusals.{size-bounds, refused-number}
 use Rattle.model.specs.Laws.Parts.{health-places, command-places}
 use Rattle.model.specs.Laws.Sheet.{sheetOf-length}
-use Rattle.theory.specs.Statements.Demand3.{PlantState, freshPlant, effect, afterWord, step, isServed, sheetLength, World, sheetFor}
-use Rattle.theory.specs.Statements.Demand3.{wordRefusal, StartMeets, too-small, too-large, too-short, Meets, no-part, no-word, no-room}
-use Rattle.theory.specs.Statements.Demand3.{Answered}
+use Rattle.theory.specs.Statements.Demand3.{PlantState, freshPlant, effect, afterWord, step, isServed, sheetLength, World, sheetFor, wordRefusal}
+use Rattle.theory.specs.Statements.Demand3.{StartMeets, too-small, too-large, too-short, Meets, no-part, no-word, no-room, Answered}
 use Rattle.theory.specs.Proofs.Steady.{Ready, Steady, sheet-is, steady-good}
 
 -- ---- the reply that has a number
-
-refused-number : (k j : ℕ) → outcomeOf k ≡ outcome.Refused j → (k ≡ j) × (0 < k)
-unfolding outcomeOf
-refused-number k j e = go (dec-eq k 0)
-  where
-    go : (k ≡ 0) ⊎ (k ≢ 0) → (k ≡ j) × (0 < k)
-    go (inl z) = let q : outcome.Served ≡ outcome.Refused j = rw (eq-eqb k 0 z) at e in let x : _≡_ {A = ℕ} 0 1 = cc in absurd (omega arith)
-    go (inr z) = let q : outcome.Refused k ≡ outcome.Refused j = rw (ne-eqb k 0 z) at e in (cc, omega arith)
 
 refused-outcome : (k : ℕ) → 0 < k → outcomeOf k ≡ outcome.Refused k
 unfolding outcomeOf
@@ -126,7 +117,7 @@ module _ (k : ℕ) (ring kept : Ring) (buffer : List ℕ) where
       → Answered Met kept buffer reply
   unfolding refusedReply refusedAnswer servedReply after
   answered-by {Met} {Fine} judged fits = record {
-    only = λ i e. let t = refused-number k i (sym reply-outcome ∙ e) in forth judged i (t .0) (t .1);
+    only = λ i e. let t = refused-number reply-outcome i e in forth judged i (t .0) (t .1);
     always = λ i m. reply-outcome ∙ back judged i m;
     record-kept = λ e. rw (refused-is e);
     buffer-kept = λ e. rw (refused-is e);
@@ -135,9 +126,9 @@ module _ (k : ℕ) (ring kept : Ring) (buffer : List ℕ) where
     length-kept = sized (dec (isServed reply));
   }
     where
-      forth : {j : ℕ} → Judged Met Fine j → (i : ℕ) → j ≡ i → 0 < j → Met i
+      forth : {j : ℕ} → Judged Met Fine j → (i : ℕ) → j ≡ i → j ≢ 0 → Met i
       forth (met j l m only) i z p = rw z at m
-      forth (fine none f) i z p = absurd (omega arith)
+      forth (fine none f) i z p = absurd (p refl)
 
       back : {j : ℕ} → Judged Met Fine j → (i : ℕ) → Met i → outcomeOf j ≡ outcome.Refused i
       back (met j l m only) i k = rw (← only i k) (refused-outcome i (rw (← only i k) at l))
@@ -146,6 +137,16 @@ module _ (k : ℕ) (ring kept : Ring) (buffer : List ℕ) where
       sized : (isServed reply ≡ true) ⊎ (isServed reply ≡ false) → length (reply .buffer) ≡ length buffer
       sized (inl e) = rw (served-is e) (after-length ring buffer (fits (judged-fine judged (served-zero e))))
       sized (inr e) = rw (refused-is e)
+
+-- ---- room
+
+-- a buffer with room for every sheet: "never more than 122"
+unfoldable pub fullRoom : List ℕ
+fullRoom = replicate 122 0
+
+pub full-length : length fullRoom ≡ 122
+unfolding fullRoom
+full-length = length-replicate {A = ℕ} 122 0
 
 -- ---- the start
 

@@ -19,8 +19,8 @@ use Rattle.model.specs.Lists.{_∈_}
 use Rattle.model.specs.Laws.Lists.{map-at, keep-at, keep-in}
 use Rattle.model.specs.Laws.Parts.{parts-in, parts-at, same-eq, same-refl}
 use Rattle.model.specs.Laws.Reports.{named-code}
-use Rattle.theory.specs.Statements.Demand3.{PlantState, Operation, operation, perform, performAll, commandNamed, withOperation, operations}
-use Rattle.theory.specs.Statements.Demand3.{phasesAt, decode, AnyOrder}
+use Rattle.theory.specs.Statements.Demand3.{PlantState, Operation, operation, perform, performAll, commandNamed, withOperation, operations, phasesAt}
+use Rattle.theory.specs.Statements.Demand3.{decode, AnyOrder}
 
 -- ---- performing
 

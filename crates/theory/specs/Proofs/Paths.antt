@@ -12,6 +12,7 @@ use Rattle.model.specs.declared.Part.{Part}
 use Rattle.model.specs.Lists.{below, keep, _∈_}
 use Rattle.model.specs.Plant.{generator, generatorBreaker, busBreaker, up, arc, InRing}
 use Rattle.model.specs.Priority.{Path, others, sources, pathBusBreakers, pathBreakers, pathParts, highRises, pathsFrom, paths}
+use Rattle.model.specs.Laws.Parts.{other-kind}
 use Rattle.model.specs.Laws.Tests.{dec, dec-eq, not-of}
 use Rattle.model.specs.Laws.Lists.{below-in, below-lt, keep-in, keep-at, map-in, map-at, flat-in, flat-at}
 use Rattle.theory.specs.Proofs.Geometry.{arc-at, arc-in}
@@ -123,23 +124,23 @@ generator-on n w g m = go (on-path n w (generator g) m) refl
   where
     go : {p : Part} → OnPath n w p → p ≡ generator g → g ≡ w .source
     go at-generator e = let z : suc (w .source) ≡ suc g = cc in omega arith
-    go at-generator-breaker e = let z : _≡_ {A = ℕ} 0 1 = cc in absurd (omega arith)
-    go (at-bus-breaker m) e = let z : _≡_ {A = ℕ} 0 1 = cc in absurd (omega arith)
+    go at-generator-breaker e = other-kind e refl
+    go (at-bus-breaker m) e = other-kind e refl
 
 pub generator-breaker-on : (n : ℕ) (w : Path) (g : ℕ) → generatorBreaker g ∈ pathParts n w → g ≡ w .source
 generator-breaker-on n w g m = go (on-path n w (generatorBreaker g) m) refl
   where
     go : {p : Part} → OnPath n w p → p ≡ generatorBreaker g → g ≡ w .source
-    go at-generator e = let z : _≡_ {A = ℕ} 0 1 = cc in absurd (omega arith)
+    go at-generator e = other-kind e refl
     go at-generator-breaker e = let z : suc (w .source) ≡ suc g = cc in omega arith
-    go (at-bus-breaker m) e = let z : _≡_ {A = ℕ} 0 1 = cc in absurd (omega arith)
+    go (at-bus-breaker m) e = other-kind e refl
 
 pub bus-breaker-on : (n : ℕ) (w : Path) (i : ℕ) → busBreaker i ∈ pathParts n w → i ∈ pathBusBreakers n w
 bus-breaker-on n w i m = go (on-path n w (busBreaker i) m) refl
   where
     go : {p : Part} → OnPath n w p → p ≡ busBreaker i → i ∈ pathBusBreakers n w
-    go at-generator e = let z : _≡_ {A = ℕ} 0 1 = cc in absurd (omega arith)
-    go at-generator-breaker e = let z : _≡_ {A = ℕ} 0 1 = cc in absurd (omega arith)
+    go at-generator e = other-kind e refl
+    go at-generator-breaker e = other-kind e refl
     go (at-bus-breaker {i = j} m) e = let z : suc j ≡ suc i = cc in let y : j ≡ i = omega arith in rw y at m
 
 -- the parts of a path are parts of the ring

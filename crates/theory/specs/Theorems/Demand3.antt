@@ -16,8 +16,7 @@ use Rattle.model.specs.declared.Outcome.the-variants as outcome
 use Rattle.model.specs.declared.Feed.the-variants as feed
 use Rattle.model.specs.Lists.{anyOf}
 use Rattle.model.specs.Values.{number, samePart, wordNumber, choiceSource}
-use Rattle.model.specs.Plant.{PartHealth, PartCommands, smallest, largest, generatorBreaker, busBreaker, stuckClosed, healthOfKind, busFeed, InRing}
-use Rattle.model.specs.Plant.{Reaches}
+use Rattle.model.specs.Plant.{PartHealth, PartCommands, smallest, largest, generatorBreaker, busBreaker, stuckClosed, healthOfKind, busFeed, InRing, Reaches}
 use Rattle.model.specs.Priority.{Path}
 use Rattle.model.specs.Choosing.{commands, choices, choiceOf, plan}
 use Rattle.model.specs.Sheet.{opening, closing}
@@ -30,16 +29,16 @@ use Rattle.theory.specs.Theorems.Completeness.{de-energized-exactly}
 use Rattle.theory.specs.Theorems.Feeds.{Single, no-clash, energized-fed, de-energized-fed, reaches-usable, usable-reaches}
 use Rattle.theory.specs.Theorems.Interruption.{Fewer, NoneStuckClosed, opening-single, closing-single}
 use Rattle.theory.specs.Theorems.Locality.{feed-ext}
-use Rattle.theory.specs.Statements.Demand3.{Controller, PlantState, freshPlant, effect, afterWord, afterWords, Operation, operation, performAll}
-use Rattle.theory.specs.Statements.Demand3.{Phases, decode, Call, step, Calls, nothing, _then_, replyTo, words, isServed, World, Performed}
-use Rattle.theory.specs.Statements.Demand3.{performed, Ended, started, served, refused, Moment, in-first, in-second, isStuckClosed, isEmpty}
-use Rattle.theory.specs.Statements.Demand3.{excepted, Interrupted, in-start, between, in-call, shownAt, BusShown, RecordGiven, AsChosen}
-use Rattle.theory.specs.Statements.Demand3.{wordRefusal, lent, Meets, Answered, Holds, Demand3}
+use Rattle.theory.specs.Statements.Demand3.{Controller, PlantState, freshPlant, effect, afterWord, afterWords, Operation, operation, performAll, Phases}
+use Rattle.theory.specs.Statements.Demand3.{decode, Call, step, Calls, nothing, _then_, replyTo, words, isServed, World, Performed, performed, Ended}
+use Rattle.theory.specs.Statements.Demand3.{started, served, refused, Moment, in-first, in-second, isStuckClosed, isEmpty, excepted, Interrupted}
+use Rattle.theory.specs.Statements.Demand3.{in-start, between, in-call, shownAt, BusShown, RecordGiven, AsChosen, wordRefusal, lent, Meets, Answered}
+use Rattle.theory.specs.Statements.Demand3.{Holds, Demand3}
 use Rattle.theory.specs.Proofs.Operations.{perform-health, any-order, sheet-order}
-use Rattle.theory.specs.Proofs.Steady.{phasesOf, Replied, Steady, fit-of-kind, served-replied, served-decodes, transition-steady}
-use Rattle.theory.specs.Proofs.Steady.{some-of-prefix, first-fewer, first-done, second-fewer}
-use Rattle.theory.specs.Proofs.Answering.{start-served, start-fine, start-answered, start-ready, blank-fit, step-ready, step-answered}
-use Rattle.theory.specs.Proofs.Answering.{served-fine, step-served, step-refused}
+use Rattle.theory.specs.Proofs.Steady.{phasesOf, Replied, Steady, fit-of-kind, served-replied, served-decodes, transition-steady, some-of-prefix}
+use Rattle.theory.specs.Proofs.Steady.{first-fewer, first-done, second-fewer}
+use Rattle.theory.specs.Proofs.Answering.{start-served, start-fine, start-answered, start-ready, blank-fit, step-ready, step-answered, served-fine}
+use Rattle.theory.specs.Proofs.Answering.{step-served, step-refused}
 
 -- the controller of the definitions
 abbrev pub controller : Controller

@@ -6,7 +6,7 @@ use mathlib.Core.List.{List, [], _∷_, List·Memᴰ·head, List·Memᴰ·tail}
 use Prim.Native.Nat.{ℕ, _≤_, _<_}
 use native.Mathlib.Omega.{arith}
 use lib.Dec.{ltb}
-use lib.ListN.{length, replicate, length-replicate}
+use lib.ListN.{length}
 use borrow.Author.Tests.{lt-ltb, eqb-true, not-false}
 use Rattle.model.specs.declared.Part.{Part}
 use Rattle.model.specs.declared.Part.the-variants.{Generator, GeneratorBreaker, BusBreaker}
@@ -16,8 +16,8 @@ use Rattle.model.specs.declared.Report.{Report}
 use Rattle.model.specs.declared.Ring.{Ring}
 use Rattle.model.specs.Lists.{anyOf, _∈_}
 use Rattle.model.specs.Values.{number, samePart, wordNumber}
-use Rattle.model.specs.Plant.{PartHealth, PartCommands, smallest, largest, parts, fit, stuckOff, stuckOpen, stuckClosed, healthOfKind, generator}
-use Rattle.model.specs.Plant.{InRing, generatorBreaker, busBreaker}
+use Rattle.model.specs.Plant.{PartHealth, PartCommands, smallest, largest, parts, fit, stuckOff, stuckOpen, stuckClosed, healthOfKind, generator, InRing}
+use Rattle.model.specs.Plant.{generatorBreaker, busBreaker}
 use Rattle.model.specs.Choosing.{commands, choices}
 use Rattle.model.specs.Reports.{reported, allFit, healthOf, commandsOf, healthPlaces, commandPlaces, blankRing, told, planned, withPlan}
 use Rattle.model.specs.Refusals.{sizeOutside, healthOutside, activeAbove, unplanned, badRecord}
@@ -32,7 +32,8 @@ use Rattle.theory.specs.Statements.Demand3.{freshPlant, afterWord, perfo
 use Rattle.theory.specs.Statements.Records.{Made, started, stepped, Arrays}
 use Rattle.theory.specs.Proofs.Operations.{sheet-order}
 use Rattle.theory.specs.Proofs.Steady.{not-commanded, Steady, served-decodes, steady-good}
-use Rattle.theory.specs.Proofs.Answering.{start-ready, start-served, fine-begun, step-ready, step-served, step-refused, StepFine, fine-served}
+use Rattle.theory.specs.Proofs.Answering.{fullRoom, full-length, start-ready, start-served, fine-begun, step-ready, step-served, step-refused, StepFine}
+use Rattle.theory.specs.Proofs.Answering.{fine-served}
 use Rattle.theory.specs.Theorems.Demand3.{start-steady, step-steady}
 
 -- ---- a record that is made is good
@@ -105,23 +106,16 @@ ring-ext n H K small same = λ i. record {
     inside : Agree n H K
     inside p r = same p (r .0, omega (arith, r .1))
 
--- a ring is served a report with a word for its part and a buffer of 122 bytes
-room : List ℕ
-room = replicate 122 0
-
-room-length : length room ≡ 122
-unfolding room
-room-length = length-replicate {A = ℕ} 122 0
-
+-- a ring is served a report with a word for its part and full room
 served-step : {n : ℕ} {W : World} → smallest ≤ n → n ≤ largest → Steady n W → (r : Report) → InRing n (r .part)
     → wordRefusal (r .part) (r .word) ≡ 0
-    → stepReply (W .ring) r room .answer .ring ≡ withPlan (told (W .ring) r)
+    → stepReply (W .ring) r fullRoom .answer .ring ≡ withPlan (told (W .ring) r)
 unfolding servedReply servedAnswer
 served-step {n} {W} big small s r i w =
     let Q = afterWord r (W .plant) in
     let fits = sheet-fits n (Q .last) (commands n (Q .health)) small in
-    let f : StepFine n (W .plant) r (length room) = record { inside = i; word = w; fits = omega (arith, room-length) } in
-    ap (λ (x : Reply). x .answer .ring) (step-served (W .ring) r room (fine-served big small s r room f))
+    let f : StepFine n (W .plant) r (length fullRoom) = record { inside = i; word = w; fits = omega (arith, full-length) } in
+    ap (λ (x : Reply). x .answer .ring) (step-served (W .ring) r fullRoom (fine-served big small s r fullRoom f))
 
 -- a word for a part's health, unless the part is fit
 Spoken : Part → ℕ → Type 0
@@ -150,16 +144,17 @@ word-for (Generator k) h e = go (or-cases (fit h) (stuckOff h) e)
 word-for (GeneratorBreaker k) h e = breaker-word (GeneratorBreaker k) h refl refl e
 word-for (BusBreaker k) h e = breaker-word (BusBreaker k) h refl refl e
 
-start-begun : (n : ℕ) → smallest ≤ n → n ≤ largest → isServed (startReply n room) ≡ true
+start-begun : (n : ℕ) → smallest ≤ n → n ≤ largest → isServed (startReply n fullRoom) ≡ true
 start-begun n big small =
     let fits = sheet-fits n (freshPlant .last) (commands n (freshPlant .health)) small in
-    fine-begun n room (record { big = big; small = small; fits = omega (arith, room-length) })
+    fine-begun n fullRoom (record { big = big; small = small; fits = omega (arith, full-length) })
 
 start-made : (n : ℕ) → smallest ≤ n → n ≤ largest → Made (ringFor n allFit)
 unfolding ringFor servedReply servedAnswer withPlan planned blankRing
 start-made n big small =
     let begun = start-begun n big small in
-    rw (ap (λ (x : Reply). x .answer .ring) (start-served n room begun), commands-held n small allFit) at (started n room big small begun)
+    rw (ap (λ (x : Reply). x .answer .ring) (start-served n fullRoom begun), commands-held n small allFit) at
+    (started n fullRoom big small begun)
 
 module _ (n : ℕ) (big : smallest ≤ n) (small : n ≤ largest) (H : PartHealth)
     (kinds : (p : Part) → InRing n p → healthOfKind p (H p) ≡ true) where
@@ -209,7 +204,7 @@ module _ (n : ℕ) (big : smallest ≤ n) (small : n ≤ largest) (H : PartHealt
       go t =
           let size : t .0 ≡ n = sym (t .4 .size) ∙ ap (λ (x : Ring). x .n) (t .5) in
           let z = served-step (t .2) (t .3) (t .4) r (i .0, omega (arith, i .1)) f in
-          rw (rw (t .5) at z ∙ add p ps w e) at (stepped r room m)
+          rw (rw (t .5) at z ∙ add p ps w e) at (stepped r fullRoom m)
 
   makes : (ps : List Part) → ((p : Part) → p ∈ ps → InRing n p) → Made (ringFor n (partial ps))
   unfolding partial anyOf Spoken

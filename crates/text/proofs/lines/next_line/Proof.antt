@@ -1,5 +1,5 @@
 -- `next_line`: the place tells which line is next; behind the first the file is served, and has the length that its count says.
-use mathlib.Core.Path.{_≡_, refl}
+use mathlib.Core.Path.{_≡_}
 use Prim.Native.Nat.{_+_, _-_, _≤_}
 use native.Mathlib.Omega.{arith}
 use denote.Ref.{now}

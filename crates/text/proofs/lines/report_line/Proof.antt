@@ -1,11 +1,9 @@
 -- `report_line`: the report is read, and the ring is told it. A served file has the length that its count says.
-use mathlib.Core.Path.{_≡_, refl, sym, _∙_}
-use Prim.Native.Nat.{ℕ, _+_, _*_}
+use mathlib.Core.Path.{_≡_, refl}
+use Prim.Native.Nat.{ℕ}
 use native.Mathlib.Omega.{arith}
 use denote.Ref.{now}
-use lib.ListN.{length}
 use borrow.Author.Needs.{needs}
-use Rattle.model.specs.Reports.{fileCount}
 use Rattle.text.specs.Lines.{same-line}
 use Rattle.text.specs.Run.{Served, file-served, report-next, report-sure}
 use Rattle.text.proofs.lines.report_line.Statement.{statement}
