@@ -8,10 +8,8 @@ use Prim.Native.Nat.{ℕ}
 use native.Mathlib.Omega.{arith}
 use lib.Dec.{eqb}
 use lib.ListN.{take, drop, set, replicate}
-use Rattle.model.specs.declared.Part.{Part}
 use Rattle.model.specs.declared.Part.the-variants.{Generator, BusBreaker}
-use Rattle.model.specs.declared.Word.{Word}
-use Rattle.model.specs.declared.Word.the-variants.{Fit, StuckOff, StuckOpen, StuckClosed}
+use Rattle.model.specs.declared.Word.the-variants.{Fit, StuckOff}
 use Rattle.model.specs.declared.Report.{Report}
 use Rattle.model.specs.declared.Ring.{Ring}
 use Rattle.model.specs.declared.Feed.the-variants as feed
@@ -37,6 +35,7 @@ use Rattle.theory.specs.Refuting.Claims.{darkThoughReached, litThoughUnreached,
 use Rattle.theory.specs.Refuting.Claims.{anyClash, otherChoice, newCommands, otherFirst, otherSecond, clashInFirst, clashInSecond, startOf, firstReply}
 use Rattle.theory.specs.Refuting.Claims.{startDue, atCall, atServed, atPhases, atStart, atEnd}
 use Rattle.theory.specs.Proofs.Answering.{fullRoom}
+use Rattle.theory.specs.Refuting.Facts.{report, generator1Off, breaker1Closed, breaker2Open, breaker2Fit}
 use Rattle.theory.specs.Refuting.Runs.{run-ended, ordered, bothPhases, worldAfter, afterCall, run}
 use Rattle.theory.specs.Refuting.Refuted.{refutes3, refutes2}
 use Rattle.wrong.specs.Designs.{designController, right, right-is, startSpoilt, stepSpoilt, whenRefused, whenServed, withRing, withChoices, withBuffer}
@@ -49,14 +48,6 @@ use Rattle.model.specs.Refusals.{firstMet, sizeOutside, notOfRing, wordOfOtherK
 use Rattle.model.specs.Refusals.{badRecord, nextSheet, reportConditions, startRefusal, stepRefusal}
 
 -- ---- the calls that show it
-
--- a report of a part and a word
-abbrev report : Part → Word → Report
-report p w = record { part = p; word = w }
-
--- G1 stuck off
-abbrev generator1Off : Report
-generator1Off = report (Generator 1) StuckOff
 
 -- G2 stuck off
 abbrev generator2Off : Report
@@ -77,18 +68,6 @@ generator4Off = report (Generator 4) StuckOff
 -- BB1 stuck off, a word that no breaker has
 abbrev breaker1Off : Report
 breaker1Off = report (BusBreaker 1) StuckOff
-
--- BB1 stuck closed
-abbrev breaker1Closed : Report
-breaker1Closed = report (BusBreaker 1) StuckClosed
-
--- BB2 stuck open
-abbrev breaker2Open : Report
-breaker2Open = report (BusBreaker 2) StuckOpen
-
--- BB2 fit again
-abbrev breaker2Fit : Report
-breaker2Fit = report (BusBreaker 2) Fit
 
 -- the calls of some reports, the last first
 unfoldable pub callsOf : List Report → Calls

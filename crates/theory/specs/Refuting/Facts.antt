@@ -15,20 +15,20 @@ use Rattle.model.specs.Reports.{partNamed}
 use Rattle.theory.specs.Statements.Demand3.{Operation, operation, commandNamed, withOperation, operations, phasesAt, decode, excepted}
 
 -- a report of a part and a word
-abbrev report : Part → Word → Report
+abbrev pub report : Part → Word → Report
 report p w = record { part = p; word = w }
 
 -- BB1 stuck closed, G1 stuck off, BB2 stuck open and fit again
-abbrev breaker1Closed : Report
+abbrev pub breaker1Closed : Report
 breaker1Closed = report (BusBreaker 1) StuckClosed
 
-abbrev generator1Off : Report
+abbrev pub generator1Off : Report
 generator1Off = report (Generator 1) StuckOff
 
-abbrev breaker2Open : Report
+abbrev pub breaker2Open : Report
 breaker2Open = report (BusBreaker 2) StuckOpen
 
-abbrev breaker2Fit : Report
+abbrev pub breaker2Fit : Report
 breaker2Fit = report (BusBreaker 2) Fit
 
 -- an order for BB1 to close
