@@ -25,7 +25,8 @@ use model::STUCK_OPEN;
 fn is_running(health: u8, command: bool) -> bool
     ensures { λ r. ⌜ r ≡ fit health && command ⌝ }
 {
-    components::fit_generator(health) && command
+    let runs = components::fit_generator(health);
+    runs && command
 }
 
 // "A fit part does what it was last ordered; a stuck part ignores orders.": whether a breaker is closed is judged here
