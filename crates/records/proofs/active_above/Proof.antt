@@ -1,7 +1,7 @@
 -- `records::active_above` meets its contract. The loop's invariant: each part of the places passed above n is fit, and off or open.
 use mathlib.Core.Path.{_≡_, sym, _∙_}
-use mathlib.Core.Bool.{false}
-use Prim.Native.Nat.{_≤_, _<_, _-_}
+use mathlib.Core.Bool.{Bool, true, false}
+use Prim.Native.Nat.{ℕ, _≤_, _<_, _-_}
 use native.Mathlib.Omega.{arith}
 use borrow.Author.Needs.{needs}
 use Rattle.model.specs.declared.Part.{Part}
@@ -22,6 +22,10 @@ Inv-loop n health commands i₀ i =
 abbrev μ-loop : tie.MeasureT-loop
 μ-loop n health commands i₀ i = 20 - i
 
+-- whether the part at the loop's place is not fit, or on or closed
+abbrev active-at : tie.At-loop Inv-loop μ-loop → (ℕ → Part) → Bool
+active-at l part = active (healthOf (l .before .args .t2)) (commandsOf (l .before .args .t3)) (part (l .loop .i))
+
 loop-holds : tie.Need-loop-holds Inv-loop μ-loop
 unfolding healthOf commandsOf
 loop-holds c = (search needs, search needs, λ p m l. absurd (omega arith))
@@ -37,7 +41,10 @@ is-active-requires c κs = search needs
 
 returns : tie.Need-returns Inv-loop μ-loop
 unfolding healthOf commandsOf
-returns c = sym (some-active _ _ _ (generator _) (search needs) (search needs) (sym (c .before .is-active .ensures) ∙ c .if1 .taken))
+returns c =
+    let l = c .before .before .before .before .before in
+    let e : active-at l generator ≡ true = sym (c .before .is-active .ensures) ∙ c .if1 .taken in
+    sym (some-active _ _ _ (generator (l .loop .i)) (search needs) (search needs) e)
 
 element-copy-out-is-active-3 : tie.Need-element-copy-out-is-active-3 Inv-loop μ-loop
 element-copy-out-is-active-3 c = search needs
@@ -51,7 +58,9 @@ is-active-requires-2 c κs = search needs
 returns-2 : tie.Need-returns-2 Inv-loop μ-loop
 unfolding healthOf commandsOf
 returns-2 c =
-    sym (some-active _ _ _ (generatorBreaker _) (search needs) (search needs) (sym (c .before .is-active2 .ensures) ∙ c .if2 .taken))
+    let l = c .before .before .before .before .before .before .before .before .before in
+    let e : active-at l generatorBreaker ≡ true = sym (c .before .is-active2 .ensures) ∙ c .if2 .taken in
+    sym (some-active _ _ _ (generatorBreaker (l .loop .i)) (search needs) (search needs) e)
 
 element-copy-out-is-active-5 : tie.Need-element-copy-out-is-active-5 Inv-loop μ-loop
 element-copy-out-is-active-5 c = search needs
@@ -64,7 +73,10 @@ is-active-requires-3 c κs = search needs
 
 returns-3 : tie.Need-returns-3 Inv-loop μ-loop
 unfolding healthOf commandsOf
-returns-3 c = sym (some-active _ _ _ (busBreaker _) (search needs) (search needs) (sym (c .before .is-active3 .ensures) ∙ c .if3 .taken))
+returns-3 c =
+    let l = c .before .before .before .before .before .before .before .before .before .before .before .before .before in
+    let e : active-at l busBreaker ≡ true = sym (c .before .is-active3 .ensures) ∙ c .if3 .taken in
+    sym (some-active _ _ _ (busBreaker (l .loop .i)) (search needs) (search needs) e)
 
 add-i : tie.Need-add-i Inv-loop μ-loop
 add-i c = search needs
@@ -76,14 +88,12 @@ loop-again : tie.Need-loop-again Inv-loop μ-loop
 unfolding healthOf commandsOf
 loop-again c =
     let d = c .before .before .before .before in
-    let e = d .before .before .before .before in (
-      search needs,
-      search needs,
-      ring-more _ _ (e .before .before .before .before .before .loop .inv .2)
-          (λ l. sym (e .before .is-active .ensures) ∙ e .if1 .left)
-          (λ l. sym (d .before .is-active2 .ensures) ∙ d .if2 .left)
-          (λ l. sym (c .before .is-active3 .ensures) ∙ c .if3 .left),
-    )
+    let e = d .before .before .before .before in
+    let l = e .before .before .before .before .before in
+    let quiet : active-at l generator ≡ false = sym (e .before .is-active .ensures) ∙ e .if1 .left in
+    let quiet-breaker : active-at l generatorBreaker ≡ false = sym (d .before .is-active2 .ensures) ∙ d .if2 .left in
+    let quiet-bus-breaker : active-at l busBreaker ≡ false = sym (c .before .is-active3 .ensures) ∙ c .if3 .left in
+    (search needs, search needs, ring-more _ _ (l .loop .inv .2) (λ p. quiet) (λ p. quiet-breaker) (λ p. quiet-bus-breaker))
 
 returns-4 : tie.Need-returns-4 Inv-loop μ-loop
 unfolding healthOf commandsOf
