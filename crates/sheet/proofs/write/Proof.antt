@@ -96,7 +96,7 @@ phases-requires : tie.Need-phases-requires
 phases-requires c κs = search needs
 
 slice-relend-prefix-lay-out : tie.Need-slice-relend-prefix-lay-out
-slice-relend-prefix-lay-out c = search needs
+slice-relend-prefix-lay-out c = omega (arith, facts)
 
 same-length : tie.Need-same-length
 same-length c = search needs
