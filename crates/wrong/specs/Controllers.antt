@@ -283,57 +283,6 @@ wrongs3 = wrongDesigns ++ (wrongStarts ++ (wrongRefusals ++ (wrongSteps ++ wrong
 unfoldable pub refuted3 : Row3 → Bool
 refuted3 k = fails3 (k .wrong) (k .shows) (k .claim)
 
--- a test that cannot pass
-none-true : (b : Bool) → (b ≡ true → ⊥) → b ≡ false
-none-true true f = absurd (f refl)
-none-true false f = refl
-
--- every computed fact of demand 3, by one evaluation
-computed3 : allOf refuted3 wrongs3 ≡ true
-unfolding below keep first anyOf allOf partCode samePart parts healthOfKind next up arc connected feeds feeders feedBy busFeed others
-    sources pathBusBreakers pathBreakers pathParts highRises pathsFrom paths onPaths usable countedClosed isolated permitted choose addPath
-    chosen plan commands choiceOf choices opening closing sheetOf sheet written partNamed reported places healthOf commandsOf healthPlaces
-    commandPlaces blankRing told planned withPlan firstMet sizeOutside notOfRing wordOfOtherKind generatorFitAgain tooShort healthOutside
-    activeAbove unplanned badRecord nextSheet reportConditions startRefusal stepRefusal allDark refusedAnswer refusedReply servedAnswer
-    servedReply startReply stepReply afterWord afterWords perform performAll commandNamed withOperation operations phasesAt decode excepted
-    wordRefusal earlier ordered bothPhases worldAfter afterCall run sum digest ringSum choiceNumber choicesSum operationNumber
-    operationsDigest isDark feedNumber isClash onWorld onPhases due refusedInVain notRefused recordChanged bufferChanged choicesLit
-    behindChanged lengthChanged darkThoughReached litThoughUnreached litByAnother darkThoughFed otherHealth otherCommand unfitAbove onAbove
-    anyClash otherChoice newCommands otherFirst otherSecond clashInFirst clashInSecond startOf firstReply startDue atCall atServed atPhases atStart
-    atEnd fails3 designCommands designSheet designChoices designServed designBad designStart designStep designController right chosenBy
-    trying planningFor writing allBusesDark givesUp emptyPhases repeatsStart onePlan miscounts closingsFirst oneWave wavesExchanged
-    stuckClosedOpen breakerBehind highFirst startSpoilt stepSpoilt whenRefused whenServed withRing withChoices withBuffer fullRoom callsOf
-    starting handed halted reversed sheetWith startRefusing startServing stepRefusing stepServing startWrites stepWrites refusesTwenty
-    refusesStarts refusesReports servesStarts servesReports fitChoices noChoices wrongDesigns wrongStarts wrongRefusals wrongSteps
-    wrongMoments wrongs3 refuted3 flatMap
-computed3 = refl
-
--- none of the wrong controllers meets demand 3
-pub none-meets-3 : (k : Row3) → k ∈ wrongs3 → Demand3 (k .wrong) → ⊥
-unfolding refuted3
-none-meets-3 k m d = refutes3 (k .wrong) (k .shows) d (k .claim) (all-at refuted3 wrongs3 computed3 k m)
-
--- the right design fails no claim anywhere
-pub right-fails-none-3 : (i : Instance) (k : Claim3) → fails3 (designController right) i k ≡ false
-right-fails-none-3 i k = rw right-is (none-true (fails3 controller i k) (refutes3 controller i demand3 k))
-
--- nor one that is wrong at the largest ring alone, or above it
-none-meets-20 : Demand3 refusesTwenty → ⊥
-unfolding refusesTwenty startSpoilt refusedReply refusedAnswer
-none-meets-20 d = five (d .start-answered 20 fullRoom .only 5 refl)
-  where
-    five : {n k : ℕ} → StartMeets n k 5 → ⊥
-    five {n} {k} m = go m refl
-      where
-        go : {j : ℕ} → StartMeets n k j → j ≡ 5 → ⊥
-        go (too-small l) e = omega arith
-        go (too-large l) e = omega arith
-        go (too-short b s l) e = omega arith
-
-none-meets-21 : Demand3 servesStarts → ⊥
-unfolding servesStarts startSpoilt servedReply servedAnswer
-none-meets-21 d = served-refused refl (d .start-answered 21 fullRoom .always 2 (too-large (omega arith)))
-
 -- ---- demand 2: likewise
 
 pub record Row2 : Type 0 where
@@ -368,34 +317,6 @@ wrongs2 =
 unfoldable pub refuted2 : Row2 → Bool
 refuted2 k = fails2 (k .wrong) (k .shows) (k .claim)
 
-computed2 : allOf refuted2 wrongs2 ≡ true
-unfolding below keep first anyOf allOf partCode samePart parts healthOfKind next up arc connected feeds feeders feedBy busFeed others
-    sources pathBusBreakers pathBreakers pathParts highRises pathsFrom paths onPaths usable countedClosed isolated permitted choose addPath
-    chosen plan commands choiceOf choices opening closing sheetOf sheet written partNamed reported places healthOf commandsOf healthPlaces
-    commandPlaces blankRing told planned withPlan firstMet sizeOutside notOfRing wordOfOtherKind generatorFitAgain tooShort healthOutside
-    activeAbove unplanned badRecord nextSheet reportConditions startRefusal stepRefusal allDark refusedAnswer refusedReply servedAnswer
-    servedReply startReply stepReply afterWord afterWords perform performAll commandNamed withOperation operations phasesAt decode excepted
-    wordRefusal earlier ordered bothPhases worldAfter afterCall run sum digest ringSum choiceNumber choicesSum operationNumber
-    operationsDigest isDark feedNumber isClash onWorld onPhases due refusedInVain notRefused recordChanged bufferChanged choicesLit
-    behindChanged lengthChanged darkThoughReached litThoughUnreached litByAnother darkThoughFed otherHealth otherCommand unfitAbove onAbove
-    anyClash otherChoice newCommands otherFirst otherSecond clashInFirst clashInSecond startOf firstReply startDue atCall atServed atPhases atStart
-    atEnd fails3 designCommands designSheet designChoices designServed designBad designStart designStep designController right chosenBy
-    trying planningFor writing allBusesDark givesUp emptyPhases repeatsStart onePlan miscounts closingsFirst oneWave wavesExchanged
-    stuckClosedOpen breakerBehind highFirst startSpoilt stepSpoilt whenRefused whenServed withRing withChoices withBuffer fullRoom callsOf
-    starting handed halted reversed sheetWith startRefusing startServing stepRefusing stepServing startWrites stepWrites refusesTwenty
-    refusesStarts refusesReports servesStarts servesReports fitChoices noChoices flatMap fails2 extraOpen extraClose hasOperation
-    otherOutcome rises wrongs2 refuted2
-computed2 = refl
-
--- none of the wrong controllers meets demand 2
-pub none-meets-2 : (k : Row2) → k ∈ wrongs2 → Demand2 (k .wrong) → ⊥
-unfolding refuted2
-none-meets-2 k m d = refutes2 (k .wrong) (k .shows) d (k .claim) (all-at refuted2 wrongs2 computed2 k m)
-
--- the right design fails no claim anywhere
-pub right-fails-none-2 : (i : Instance) (k : Claim2) → fails2 (designController right) i k ≡ false
-right-fails-none-2 i k = rw right-is (none-true (fails2 controller i k) (refutes2 controller i demand2 k))
-
 -- ---- the order of operations
 
 -- that controller, interrupted after k operations of either phase in the sheet's order
@@ -405,51 +326,90 @@ clashesNowhere k =
     let i = halted k (after [] breaker2Open) in
     not (fails3 c i claim.clash-in-first) && not (fails3 c i claim.clash-in-second)
 
--- the order of the operations is what is wrong with the fourth and fifth controller of `wrongMoments`: in the sheet's own order they
--- clash nowhere
-in-sheet-order : allOf clashesNowhere (0 ∷ 1 ∷ 2 ∷ []) ≡ true
-unfolding clashesNowhere below keep first anyOf allOf partCode samePart parts healthOfKind next up arc connected feeds feeders feedBy
-    busFeed others
-    sources pathBusBreakers pathBreakers pathParts highRises pathsFrom paths onPaths usable countedClosed isolated permitted choose addPath
-    chosen plan commands choiceOf choices opening closing sheetOf sheet written partNamed reported places healthOf commandsOf healthPlaces
-    commandPlaces blankRing told planned withPlan firstMet sizeOutside notOfRing wordOfOtherKind generatorFitAgain tooShort healthOutside
-    activeAbove unplanned badRecord nextSheet reportConditions startRefusal stepRefusal allDark refusedAnswer refusedReply servedAnswer
-    servedReply startReply stepReply afterWord afterWords perform performAll commandNamed withOperation operations phasesAt decode excepted
-    wordRefusal earlier ordered bothPhases worldAfter afterCall run sum digest ringSum choiceNumber choicesSum operationNumber
-    operationsDigest isDark feedNumber isClash onWorld onPhases due refusedInVain notRefused recordChanged bufferChanged choicesLit
-    behindChanged lengthChanged darkThoughReached litThoughUnreached litByAnother darkThoughFed otherHealth otherCommand unfitAbove onAbove
-    anyClash otherChoice newCommands otherFirst otherSecond clashInFirst clashInSecond startOf firstReply startDue atCall atServed atPhases atStart
-    atEnd fails3 designCommands designSheet designChoices designServed designBad designStart designStep designController right chosenBy
-    trying planningFor writing allBusesDark givesUp emptyPhases repeatsStart onePlan miscounts closingsFirst oneWave wavesExchanged
-    stuckClosedOpen breakerBehind highFirst startSpoilt stepSpoilt whenRefused whenServed withRing withChoices withBuffer fullRoom callsOf
-    starting handed halted reversed sheetWith startRefusing startServing stepRefusing stepServing startWrites stepWrites refusesTwenty
-    refusesStarts refusesReports servesStarts servesReports fitChoices noChoices flatMap
-in-sheet-order = refl
+-- ---- what is computed
 
--- ---- the exception is needed
+-- every computed fact about these controllers
+record Computed : Type 0 where
+  refuted-3 : allOf refuted3 wrongs3 ≡ true
+  refuted-2 : allOf refuted2 wrongs2 ≡ true
+  -- the order of the operations is what is wrong with the fourth and fifth controller of `wrongMoments`: in the sheet's own order
+  -- they clash nowhere
+  in-sheet-order : allOf clashesNowhere (0 ∷ 1 ∷ 2 ∷ []) ≡ true
+  -- the exception is needed, n = 3 after the start, BB1 stuck closed: before the first operation, at an excepted moment, B1 is fed
+  -- by two generators
+  exception-needed : (P : PlantState)
+      × Interrupted controller 3 fullRoom (nothing then step breaker1Closed fullRoom) P true
+      × (busFeed 3 (P .health) (P .last) 0 ≡ feed.Clash 1 2)
 
--- n = 3 after the start, BB1 stuck closed: before the first operation, at an excepted moment, B1 is fed by two generators
-exception-needed : (P : PlantState)
-    × Interrupted controller 3 fullRoom (nothing then step breaker1Closed fullRoom) P true
-    × (busFeed 3 (P .health) (P .last) 0 ≡ feed.Clash 1 2)
+-- by one evaluation
+computed : Computed
 unfolding below keep first anyOf allOf partCode samePart parts healthOfKind next up arc connected feeds feeders feedBy busFeed others
-    sources pathBusBreakers pathBreakers pathParts highRises pathsFrom paths onPaths usable countedClosed isolated permitted choose addPath
-    chosen plan commands choiceOf choices opening closing sheetOf sheet written partNamed reported places healthOf commandsOf healthPlaces
-    commandPlaces blankRing told planned withPlan firstMet sizeOutside notOfRing wordOfOtherKind generatorFitAgain tooShort healthOutside
-    activeAbove unplanned badRecord nextSheet reportConditions startRefusal stepRefusal allDark refusedAnswer refusedReply servedAnswer
-    servedReply startReply stepReply afterWord afterWords perform performAll commandNamed withOperation operations phasesAt decode excepted
-    wordRefusal earlier ordered bothPhases worldAfter afterCall run sum digest ringSum choiceNumber choicesSum operationNumber
-    operationsDigest isDark feedNumber isClash onWorld onPhases due refusedInVain notRefused recordChanged bufferChanged choicesLit
-    behindChanged lengthChanged darkThoughReached litThoughUnreached litByAnother darkThoughFed otherHealth otherCommand unfitAbove onAbove
-    anyClash otherChoice newCommands otherFirst otherSecond clashInFirst clashInSecond startOf firstReply startDue atCall atServed atPhases atStart
-    atEnd fails3 designCommands designSheet designChoices designServed designBad designStart designStep designController right chosenBy
-    trying planningFor writing allBusesDark givesUp emptyPhases repeatsStart onePlan miscounts closingsFirst oneWave wavesExchanged
-    stuckClosedOpen breakerBehind highFirst startSpoilt stepSpoilt whenRefused whenServed withRing withChoices withBuffer fullRoom callsOf
-    starting handed halted reversed sheetWith startRefusing startServing stepRefusing stepServing startWrites stepWrites refusesTwenty
-    refusesStarts refusesReports servesStarts servesReports fitChoices noChoices flatMap
-exception-needed = (
-  _,
-  in-call (step breaker1Closed fullRoom) whole (run-ended controller false 3 fullRoom nothing _ refl) refl refl
-      (in-first [] (Permᴰ·refl _)),
-  refl,
-)
+    sources pathBusBreakers pathBreakers pathParts highRises pathsFrom paths onPaths usable countedClosed isolated permitted choose
+    addPath chosen plan commands choiceOf choices opening closing sheetOf sheet written partNamed reported places healthOf commandsOf
+    healthPlaces commandPlaces blankRing told planned withPlan firstMet sizeOutside notOfRing wordOfOtherKind generatorFitAgain tooShort
+    healthOutside activeAbove unplanned badRecord nextSheet reportConditions startRefusal stepRefusal allDark refusedAnswer refusedReply
+    servedAnswer servedReply startReply stepReply afterWord afterWords perform performAll commandNamed withOperation operations phasesAt
+    decode excepted wordRefusal earlier ordered bothPhases worldAfter afterCall run sum digest ringSum choiceNumber choicesSum
+    operationNumber operationsDigest isDark feedNumber isClash onWorld onPhases due refusedInVain notRefused recordChanged bufferChanged
+    choicesLit behindChanged lengthChanged darkThoughReached litThoughUnreached litByAnother darkThoughFed otherHealth otherCommand
+    unfitAbove onAbove anyClash otherChoice newCommands otherFirst otherSecond clashInFirst clashInSecond startOf firstReply startDue
+    atCall atServed atPhases atStart atEnd fails3 designCommands designSheet designChoices designServed designBad designStart designStep
+    designController right chosenBy trying planningFor writing allBusesDark givesUp emptyPhases repeatsStart onePlan miscounts
+    closingsFirst oneWave wavesExchanged stuckClosedOpen breakerBehind highFirst startSpoilt stepSpoilt whenRefused whenServed withRing
+    withChoices withBuffer fullRoom callsOf starting handed halted reversed sheetWith startRefusing startServing stepRefusing stepServing
+    startWrites stepWrites refusesTwenty refusesStarts refusesReports servesStarts servesReports fitChoices noChoices wrongDesigns
+    wrongStarts wrongRefusals wrongSteps wrongMoments wrongs3 refuted3 flatMap fails2 extraOpen extraClose hasOperation otherOutcome rises
+    wrongs2 refuted2 clashesNowhere
+computed = record {
+  refuted-3 = refl;
+  refuted-2 = refl;
+  in-sheet-order = refl;
+  exception-needed = (
+    _,
+    in-call (step breaker1Closed fullRoom) whole (run-ended controller false 3 fullRoom nothing _ refl) refl refl
+        (in-first [] (Permᴰ·refl _)),
+    refl,
+  );
+}
+
+-- ---- no wrong controller meets a demand
+
+-- a test that cannot pass
+none-true : (b : Bool) → (b ≡ true → ⊥) → b ≡ false
+none-true true f = absurd (f refl)
+none-true false f = refl
+
+-- none of the wrong controllers meets demand 3
+pub none-meets-3 : (k : Row3) → k ∈ wrongs3 → Demand3 (k .wrong) → ⊥
+unfolding refuted3
+none-meets-3 k m d = refutes3 (k .wrong) (k .shows) d (k .claim) (all-at refuted3 wrongs3 (computed .refuted-3) k m)
+
+-- the right design fails no claim anywhere
+pub right-fails-none-3 : (i : Instance) (k : Claim3) → fails3 (designController right) i k ≡ false
+right-fails-none-3 i k = rw right-is (none-true (fails3 controller i k) (refutes3 controller i demand3 k))
+
+-- nor one that is wrong at the largest ring alone, or above it
+none-meets-20 : Demand3 refusesTwenty → ⊥
+unfolding refusesTwenty startSpoilt refusedReply refusedAnswer
+none-meets-20 d = five (d .start-answered 20 fullRoom .only 5 refl)
+  where
+    five : {n k : ℕ} → StartMeets n k 5 → ⊥
+    five {n} {k} m = go m refl
+      where
+        go : {j : ℕ} → StartMeets n k j → j ≡ 5 → ⊥
+        go (too-small l) e = omega arith
+        go (too-large l) e = omega arith
+        go (too-short b s l) e = omega arith
+
+none-meets-21 : Demand3 servesStarts → ⊥
+unfolding servesStarts startSpoilt servedReply servedAnswer
+none-meets-21 d = served-refused refl (d .start-answered 21 fullRoom .always 2 (too-large (omega arith)))
+
+-- none of the wrong controllers meets demand 2
+pub none-meets-2 : (k : Row2) → k ∈ wrongs2 → Demand2 (k .wrong) → ⊥
+unfolding refuted2
+none-meets-2 k m d = refutes2 (k .wrong) (k .shows) d (k .claim) (all-at refuted2 wrongs2 (computed .refuted-2) k m)
+
+-- the right design fails no claim anywhere
+pub right-fails-none-2 : (i : Instance) (k : Claim2) → fails2 (designController right) i k ≡ false
+right-fails-none-2 i k = rw right-is (none-true (fails2 controller i k) (refutes2 controller i demand2 k))
