@@ -19,7 +19,7 @@ pub fn start(n: u8, buffer: &mut [u8]) -> RingAnswer
     ensures values { λ r. ⌜ choiceValues (r .choices) ≡ callValues (startRefusal n (length (now (buffer .entry)))) (blankRing n) ⌝ }
 {
     if components::size_outside(n) {
-        return transition::refused(2, transition::blank(0));
+        return rings::refused(2, rings::blank(0));
     }
     transition::start(n, buffer)
 }
@@ -35,7 +35,7 @@ pub fn step(ring: Ring, report: Report, buffer: &mut [u8]) -> RingAnswer
         ⌝ }
 {
     if records::bad_record(ring) {
-        return transition::refused(9, ring);
+        return rings::refused(9, ring);
     }
     transition::step(ring, report, buffer)
 }

@@ -30,8 +30,18 @@ use Rattle.model.specs.Plant.{feeders, busFeed}
 use Rattle.model.specs.Choosing.{pathValues, planValues, choices}
 use Rattle.model.specs.Sheet.{written}
 use Rattle.model.specs.Reports.{fileSize, fileCount, places, healthOf, commandsOf, blankRing, told, withPlan}
-use Rattle.model.specs.Refusals.{sheetRefusal, startRefusal, stepRefusal, feedsRefusal, fileRefusal, codeRefusal, byteRefusal, reportAnswer}
-use Rattle.model.specs.Refusals.{reportRefusal, nextSheet}
+use Rattle.model.specs.Refusals.{
+  sheetRefusal,
+  startRefusal,
+  stepRefusal,
+  feedsRefusal,
+  fileRefusal,
+  codeRefusal,
+  byteRefusal,
+  reportAnswer,
+  reportRefusal,
+  nextSheet,
+}
 
 -- the part that a code names in a ring of n, or refusal 5
 unfoldable pub partAnswer : Option Part → PartAnswer

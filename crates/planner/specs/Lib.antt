@@ -1,6 +1,4 @@
-pub mod Arrays
-pub mod Sources
-pub mod Walk
+-- The laws of choosing bus by bus, as the code does it.
 pub mod Owner
 pub mod Search
 pub mod Progress

@@ -19,7 +19,8 @@ use Rattle.theory.specs.Proofs.Geometry.{next-lt, up-refl, up-next-right}
 use Rattle.theory.specs.Theorems.Connected.{Near, leads-mono, leads-trans, leads-sym, arc-leads, connected-leads, leads-connected, leads-split}
 use Rattle.theory.specs.Proofs.Paths.{lower, upper, Ends, lower-lt, upper-lt, path-at, path-in, tried-at}
 use Rattle.theory.specs.Proofs.Choosing.{Isolated, counted-stuck, counted-in, counted-at, counted-cons, Safe, safe-cons, permitted-at, permitted-of}
-use Rattle.planner.specs.Walk.{free, clear, Between, clear-at, clear-of}
+use Rattle.sources.specs.Sources.{mayFeed}
+use Rattle.walks.specs.Walk.{free, clear, Between, clear-at, clear-of}
 
 -- the number of a path's generator
 abbrev pub sourceNumber : Option Path → ℕ
@@ -107,24 +108,6 @@ module _ {n : ℕ} {w : Path} (h : Ends n w) where
       go hi l (inr e) = omega (arith, up-next-right n (lower w) i (lower-lt h) hi e)
 
 -- ---- one path more
-
--- the generator may feed: it is fit, and its breaker is not stuck open
-unfoldable pub mayFeed : PartHealth → ℕ → Bool
-mayFeed H g = fit (H (generator g)) && not (stuckOpen (H (generatorBreaker g)))
-
--- .. of a generator of health g with a breaker of health h, by cases of the numbers: however the code words its test
-module _ (g h : ℕ) {k : Bool} (is : k ≡ fit g) where
-  pub fed-by : {r : Bool} → k ≡ true → (h ≡ 2 → r ≡ true → ⊥) → (h ≢ 2 → r ≡ false → ⊥) → r ≡ fit g && not (stuckOpen h)
-  fed-by {r} e p q = rw (← is, e) (go (dec-eq h 2) (dec r))
-    where
-      go : (h ≡ 2) ⊎ (h ≢ 2) → (r ≡ true) ⊎ (r ≡ false) → r ≡ not (stuckOpen h)
-      go (inl i) (inl z) = absurd (p i z)
-      go (inl i) (inr z) = rw (eq-eqb h 2 i) z
-      go (inr i) (inl z) = rw (ne-eqb h 2 i) z
-      go (inr i) (inr z) = absurd (q i z)
-
-  pub unfed-by : k ≡ false → false ≡ fit g && not (stuckOpen h)
-  unfed-by e = rw (← is, e)
 
 -- the number of bus breakers of a path
 abbrev pub pathSteps : ℕ → Path → ℕ

@@ -27,17 +27,29 @@ use Rattle.model.specs.Laws.Tests.{iff, dec, dec-lt, below-other, below-last}
 use Rattle.model.specs.Laws.Lists.{any-at, any-in, first-at, first-ext}
 use Rattle.model.specs.Laws.Parts.{same-eq, same-refl, places-at, places-ext, places-set, set-places, is-places}
 use Rattle.theory.specs.Theorems.Connected.{connected-ext}
-use Rattle.theory.specs.Proofs.Paths.{Ends, path-at, path-in, source-on, breaker-on, line-on, generator-on, generator-breaker-on, bus-breaker-on, pathTo}
-use Rattle.theory.specs.Proofs.Paths.{tried-at}
+use Rattle.theory.specs.Proofs.Paths.{
+  Ends,
+  path-at,
+  path-in,
+  source-on,
+  breaker-on,
+  line-on,
+  generator-on,
+  generator-breaker-on,
+  bus-breaker-on,
+  pathTo,
+  tried-at,
+}
 use Rattle.theory.specs.Proofs.Choosing.{safe-chosen, chosen-ends}
 use Rattle.planner.specs.declared.progress.Progress.{Progress}
 use Rattle.planner.specs.declared.search.Span.{Span}
 use Rattle.planner.specs.declared.search.Found.{Found}
 use Rattle.planner.specs.declared.search.Found.the-variants as found
-use Rattle.planner.specs.Arrays.{at, setAll, set-all-places, both}
-use Rattle.planner.specs.Walk.{outward, outward-at, outward-in, closedBy, reach, reach-at, reach-connected}
+use Rattle.sources.specs.Sources.{mayFeed}
+use Rattle.walks.specs.Arrays.{at, setAll, set-all-places, both}
+use Rattle.walks.specs.Walk.{outward, outward-at, outward-in, closedBy, reach, reach-at, reach-connected}
 use Rattle.planner.specs.Search.{spanOf, passesBy, pathFound}
-use Rattle.planner.specs.Owner.{owner, mayFeed, pathSteps, passes, ends-in, owner-more, walk-choice}
+use Rattle.planner.specs.Owner.{owner, pathSteps, passes, ends-in, owner-more, walk-choice}
 
 -- the choice of the bus served last
 unfoldable pub lastChoice : ℕ → PartHealth → ℕ → Choice

@@ -22,8 +22,8 @@ use Rattle.theory.specs.Proofs.Paths.{lower, upper, Ends, lower-lt, upper-lt, p
 use Rattle.planner.specs.declared.search.Span.{Span}
 use Rattle.planner.specs.declared.search.Found.{Found}
 use Rattle.planner.specs.declared.search.Found.the-variants as found
-use Rattle.planner.specs.Arrays.{at}
-use Rattle.planner.specs.Walk.{free, clear-at}
+use Rattle.walks.specs.Arrays.{at}
+use Rattle.walks.specs.Walk.{free, clear-at}
 use Rattle.planner.specs.Owner.{pathSteps, clearPath, ends-in}
 
 -- the span of a path

@@ -13,8 +13,6 @@ use progress::Progress;
 
 mod progress;
 mod search;
-mod sources;
-mod walk;
 
 // What a plan gives: each bus's choice and each part's command.
 pub struct Planned {

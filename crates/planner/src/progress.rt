@@ -6,12 +6,10 @@ ghost use Prim.Native.Nat.{_+_, _≤_, _<_};
 ghost use Rattle.model.specs.Choosing.{choiceOf};
 ghost use Rattle.model.specs.Reports.{places, healthOf};
 ghost use Rattle.theory.specs.Proofs.Paths.{pathTo};
-ghost use Rattle.planner.specs.Owner.{mayFeed};
+ghost use Rattle.sources.specs.Sources.{mayFeed};
 ghost use Rattle.planner.specs.Progress.{served, taken, darkened};
 use super::search;
 use super::search::Found;
-use super::sources;
-use super::walk;
 use model::BusChoice;
 use model::Choice;
 use model::Commands;
@@ -52,15 +50,15 @@ fn take(n: usize, health: Health, progress: Progress, b: usize, g: usize, rising
     generator_breakers[g] = true;
     let span = search::span_of(n, b, g, rising);
     let before = progress.commands.bus_breakers;
-    let bus_breakers = walk::close(n, before, g, rising, span.steps);
+    let bus_breakers = walks::close(n, before, g, rising, span.steps);
     let last = BusChoice {
         choice: named(n, b, g, rising),
     };
     let number = sources::number_of(g);
     let breakers = health.bus_breakers;
     let owners = progress.owners;
-    let above = walk::spread(n, &breakers, &bus_breakers, owners, b, number, true);
-    let around = walk::spread(n, &breakers, &bus_breakers, above, b, number, false);
+    let above = walks::spread(n, &breakers, &bus_breakers, owners, b, number, true);
+    let around = walks::spread(n, &breakers, &bus_breakers, above, b, number, false);
     Progress {
         last,
         owners: around,

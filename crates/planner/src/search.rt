@@ -6,8 +6,6 @@ ghost use Rattle.model.specs.Lists.{first};
 ghost use Rattle.model.specs.Priority.{highRises, paths};
 ghost use Rattle.theory.specs.Proofs.Paths.{pathTo};
 ghost use Rattle.planner.specs.Search.{passesBy, triedBy, candidateBy, pathFound, pathCount, pathRises, spanOf};
-use super::sources;
-use super::walk;
 
 // What a search finds: a path's generator, and whether the path runs through rising bus numbers.
 pub enum Found {
@@ -27,7 +25,7 @@ pub fn high_rises(n: usize, b: usize, g: usize) -> bool
     requires { ⌜ (b < n) × (g < n) × (n ≤ 20) ⌝ }
     ensures { λ r. ⌜ r ≡ highRises n g b ⌝ }
 {
-    walk::up(n, g, b) <= walk::up(n, b, g)
+    walks::up(n, g, b) <= walks::up(n, b, g)
 }
 
 // The number of paths from generator g to bus b: "From Gk, bus Bk has one way, its own", "From another generator there are
@@ -55,12 +53,12 @@ pub fn span_of(n: usize, b: usize, g: usize, rising: bool) -> Span
     if rising {
         return Span {
             from: g,
-            steps: walk::up(n, g, b),
+            steps: walks::up(n, g, b),
         };
     }
     Span {
         from: b,
-        steps: walk::up(n, b, g),
+        steps: walks::up(n, b, g),
     }
 }
 
@@ -71,8 +69,8 @@ fn candidate(usable: &[bool; 20], owners: &[u8; 20], b: usize, g: usize) -> bool
 {
     if usable[g] {
         let number = sources::number_of(g);
-        if walk::free(owners[b], number) {
-            return walk::free(owners[g], number);
+        if walks::free(owners[b], number) {
+            return walks::free(owners[g], number);
         }
     }
     false
@@ -98,7 +96,7 @@ fn permitted(
         return false;
     }
     let span = span_of(n, b, g, rises(n, b, g, p));
-    walk::clear(
+    walks::clear(
         n,
         breakers,
         owners,

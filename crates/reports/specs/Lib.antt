@@ -1,5 +1,3 @@
--- The laws of the fault file's codes, words, reports and checks.
-pub mod Codes
-pub mod Answers
+-- The laws of the reports of a fault file and its checks.
 pub mod Reports
 pub mod File

@@ -39,7 +39,7 @@ use Rattle.model.specs.Refusals.{
 use Rattle.model.specs.Answers.{partAnswer, wordAnswer, reportAt, reportValuesAt}
 use Rattle.model.specs.Laws.Tests.{dec, dec-lt}
 use Rattle.model.specs.Laws.Reports.{code-named}
-use Rattle.reports.specs.Codes.{ofRing, code-reads, word-named, number-names}
+use Rattle.codes.specs.Codes.{ofRing, code-reads, word-named, number-names}
 
 -- conditions 6 and 7, of a part and a word
 unfoldable pub wordConditions : Part → Word → List (ℕ × Bool)

@@ -1,5 +1,5 @@
 // The program: reads a fault file from standard input and prints its run. What it prints is proved in `text`: here is a read, a loop around
-// `text::fill`, and a write.
+// `run::fill`, and a write.
 ghost use mathlib.Core.Path.{_≡_};
 ghost use Prim.Native.Nat.{_≤_};
 ghost use lib.ListN.{length};
@@ -38,10 +38,10 @@ fn read_file(file: &mut [u8]) -> Input
 fn print_run(file: &[u8], out: &mut [u8]) -> bool
     requires { ⌜ lineRoom ≤ length (now out) ⌝ }
 {
-    let mut cursor = text::begin();
+    let mut cursor = run::begin();
     let mut more = true;
     while more {
-        let piece = text::fill(cursor, file, out);
+        let piece = run::fill(cursor, file, out);
         let length = piece.length;
         if !io::write_all(STDOUT_FILENO, &out[..length]) {
             return false;

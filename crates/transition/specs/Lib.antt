@@ -1,3 +1,3 @@
-pub mod Words
+-- The laws of a start and a step.
 pub mod Advance
 pub mod Replies

@@ -13,8 +13,19 @@ use Rattle.model.specs.declared.Outcome.the-variants.{Served, Refused}
 use Rattle.model.specs.Values.{wordNumber, outcomeOf}
 use Rattle.model.specs.Plant.{smallest, largest}
 use Rattle.model.specs.Reports.{blankRing, told}
-use Rattle.model.specs.Refusals.{firstMet, orElse, notOfRing, wordOfOtherKind, generatorFitAgain, badRecord, nextSheet, reportConditions, sheetRefusal}
-use Rattle.model.specs.Refusals.{startRefusal, stepRefusal}
+use Rattle.model.specs.Refusals.{
+  firstMet,
+  orElse,
+  notOfRing,
+  wordOfOtherKind,
+  generatorFitAgain,
+  badRecord,
+  nextSheet,
+  reportConditions,
+  sheetRefusal,
+  startRefusal,
+  stepRefusal,
+}
 use Rattle.model.specs.Answers.{refusedAnswer}
 use Rattle.model.specs.Laws.Refusals.{inside, served-zero, refused-number}
 use Rattle.model.specs.Laws.Answers.{Gives, gives-refused}

@@ -18,11 +18,11 @@ fn next_is(stored: i32, ours: &[u8], expected: &mut [u8]) -> bool
 fn run_agrees(stored: i32, file: &[u8], out: &mut [u8], expected: &mut [u8]) -> bool
     requires { ⌜ (lineRoom ≤ length (now out)) × (length (now out) ≡ length (now expected)) ⌝ }
 {
-    let mut cursor = text::begin();
+    let mut cursor = run::begin();
     let mut more = true;
     let mut same = true;
     while more {
-        let piece = text::fill(cursor, file, out);
+        let piece = run::fill(cursor, file, out);
         let length = piece.length;
         same &= next_is(stored, &out[..length], expected);
         cursor = piece.cursor;

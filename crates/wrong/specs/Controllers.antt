@@ -21,31 +21,151 @@ use Rattle.model.specs.Reports.{allFit, blankRing, told, partNamed, reported, p
 use Rattle.model.specs.Answers.{Reply, refusedReply, servedReply, startReply, allDark, refusedAnswer, servedAnswer, stepReply}
 use Rattle.model.specs.Laws.Lists.{all-at}
 use Rattle.model.specs.Laws.Refusals.{served-refused}
-use Rattle.theory.specs.Statements.Demand3.{Controller, PlantState, operation, decode, step, Calls, nothing, _then_, whole, in-first, in-call, excepted}
-use Rattle.theory.specs.Statements.Demand3.{Interrupted, StartMeets, too-small, too-large, too-short, Demand3, afterWord, afterWords, perform, performAll}
-use Rattle.theory.specs.Statements.Demand3.{commandNamed, withOperation, operations, phasesAt, wordRefusal}
+use Rattle.theory.specs.Statements.Demand3.{
+  Controller,
+  PlantState,
+  operation,
+  decode,
+  step,
+  Calls,
+  nothing,
+  _then_,
+  whole,
+  in-first,
+  in-call,
+  excepted,
+  Interrupted,
+  StartMeets,
+  too-small,
+  too-large,
+  too-short,
+  Demand3,
+  afterWord,
+  afterWords,
+  perform,
+  performAll,
+  commandNamed,
+  withOperation,
+  operations,
+  phasesAt,
+  wordRefusal,
+}
 use Rattle.theory.specs.Theorems.Demand3.{controller, demand3}
 use Rattle.theory.specs.Statements.Demand2.{Demand2, earlier}
 use Rattle.theory.specs.Theorems.Demand2.{demand2}
 use Rattle.theory.specs.Refuting.Claims as claim
-use Rattle.theory.specs.Refuting.Claims.{Instance, Claim3, Claim2, fails3, fails2, extraOpen, extraClose, hasOperation, otherOutcome, rises, sum, digest}
-use Rattle.theory.specs.Refuting.Claims.{ringSum, choiceNumber, choicesSum, operationNumber, operationsDigest, isDark, feedNumber, isClash, onWorld, onPhases}
-use Rattle.theory.specs.Refuting.Claims.{due, refusedInVain, notRefused, recordChanged, bufferChanged, choicesLit, behindChanged, lengthChanged}
-use Rattle.theory.specs.Refuting.Claims.{darkThoughReached, litThoughUnreached, litByAnother, darkThoughFed, otherHealth, otherCommand, unfitAbove, onAbove}
-use Rattle.theory.specs.Refuting.Claims.{anyClash, otherChoice, newCommands, otherFirst, otherSecond, clashInFirst, clashInSecond, startOf, firstReply}
-use Rattle.theory.specs.Refuting.Claims.{startDue, atCall, atServed, atPhases, atStart, atEnd}
+use Rattle.theory.specs.Refuting.Claims.{
+  Instance,
+  Claim3,
+  Claim2,
+  fails3,
+  fails2,
+  extraOpen,
+  extraClose,
+  hasOperation,
+  otherOutcome,
+  rises,
+  sum,
+  digest,
+  ringSum,
+  choiceNumber,
+  choicesSum,
+  operationNumber,
+  operationsDigest,
+  isDark,
+  feedNumber,
+  isClash,
+  onWorld,
+  onPhases,
+  due,
+  refusedInVain,
+  notRefused,
+  recordChanged,
+  bufferChanged,
+  choicesLit,
+  behindChanged,
+  lengthChanged,
+  darkThoughReached,
+  litThoughUnreached,
+  litByAnother,
+  darkThoughFed,
+  otherHealth,
+  otherCommand,
+  unfitAbove,
+  onAbove,
+  anyClash,
+  otherChoice,
+  newCommands,
+  otherFirst,
+  otherSecond,
+  clashInFirst,
+  clashInSecond,
+  startOf,
+  firstReply,
+  startDue,
+  atCall,
+  atServed,
+  atPhases,
+  atStart,
+  atEnd,
+}
 use Rattle.theory.specs.Proofs.Answering.{fullRoom}
 use Rattle.theory.specs.Refuting.Facts.{report, generator1Off, breaker1Closed, breaker2Open, breaker2Fit}
 use Rattle.theory.specs.Refuting.Runs.{run-ended, ordered, bothPhases, worldAfter, afterCall, run}
 use Rattle.theory.specs.Refuting.Refuted.{refutes3, refutes2}
-use Rattle.wrong.specs.Designs.{designController, right, right-is, startSpoilt, stepSpoilt, whenRefused, whenServed, withRing, withChoices, withBuffer}
-use Rattle.wrong.specs.Designs.{allBusesDark, givesUp, emptyPhases, repeatsStart, onePlan, miscounts, oneWave, wavesExchanged, stuckClosedOpen}
-use Rattle.wrong.specs.Designs.{breakerBehind, highFirst, designCommands, designSheet, designChoices, designServed, designBad, designStart, designStep}
-use Rattle.wrong.specs.Designs.{chosenBy, trying, planningFor, writing, closingsFirst}
+use Rattle.wrong.specs.Designs.{
+  designController,
+  right,
+  right-is,
+  startSpoilt,
+  stepSpoilt,
+  whenRefused,
+  whenServed,
+  withRing,
+  withChoices,
+  withBuffer,
+  allBusesDark,
+  givesUp,
+  emptyPhases,
+  repeatsStart,
+  onePlan,
+  miscounts,
+  oneWave,
+  wavesExchanged,
+  stuckClosedOpen,
+  breakerBehind,
+  highFirst,
+  designCommands,
+  designSheet,
+  designChoices,
+  designServed,
+  designBad,
+  designStart,
+  designStep,
+  chosenBy,
+  trying,
+  planningFor,
+  writing,
+  closingsFirst,
+}
 use Rattle.model.specs.Values.{partCode, samePart}
 use Rattle.model.specs.Priority.{others, sources, pathBusBreakers, pathBreakers, pathParts, highRises, pathsFrom, paths}
-use Rattle.model.specs.Refusals.{firstMet, sizeOutside, notOfRing, wordOfOtherKind, generatorFitAgain, tooShort, healthOutside, activeAbove, unplanned}
-use Rattle.model.specs.Refusals.{badRecord, nextSheet, reportConditions, startRefusal, stepRefusal}
+use Rattle.model.specs.Refusals.{
+  firstMet,
+  sizeOutside,
+  notOfRing,
+  wordOfOtherKind,
+  generatorFitAgain,
+  tooShort,
+  healthOutside,
+  activeAbove,
+  unplanned,
+  badRecord,
+  nextSheet,
+  reportConditions,
+  startRefusal,
+  stepRefusal,
+}
 
 -- ---- the calls that show it
 

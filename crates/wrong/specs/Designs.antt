@@ -22,8 +22,19 @@ use Rattle.model.specs.Priority.{Path, sources, highPath, lowPath, paths}
 use Rattle.model.specs.Choosing.{onPaths, permitted, addPath, plan, commands, choiceOf, choices}
 use Rattle.model.specs.Sheet.{opening, closing, sheetOf, sheet, written}
 use Rattle.model.specs.Reports.{reported, allFit, places, healthOf, commandsOf, commandPlaces, blankRing, told, planned, withPlan}
-use Rattle.model.specs.Refusals.{firstMet, sizeOutside, healthOutside, activeAbove, unplanned, badRecord, tooShort, nextSheet, reportConditions, startRefusal}
-use Rattle.model.specs.Refusals.{stepRefusal}
+use Rattle.model.specs.Refusals.{
+  firstMet,
+  sizeOutside,
+  healthOutside,
+  activeAbove,
+  unplanned,
+  badRecord,
+  tooShort,
+  nextSheet,
+  reportConditions,
+  startRefusal,
+  stepRefusal,
+}
 use Rattle.model.specs.Answers.{Reply, refusedReply, servedAnswer, servedReply, startReply, stepReply}
 use Rattle.theory.specs.Statements.Demand3.{Controller, isServed}
 use Rattle.theory.specs.Theorems.Demand3.{controller}

@@ -17,8 +17,20 @@ use Rattle.model.specs.Values.{number, index, firstCode, partCode, sameP
 use Rattle.model.specs.Plant.{PartHealth, PartCommands, largest, generator, generatorBreaker, busBreaker, parts, InRing}
 use Rattle.model.specs.Reports.{atNumber, places, healthOf, commandsOf, healthPlaces, commandPlaces}
 use Rattle.model.specs.Laws.Tests.{and-intro, dec-eq, contra, below-other, below-last}
-use Rattle.model.specs.Laws.Lists.{any-in, any-false, below-in, below-lt, below-length, map-below-at, map-in, map-at, rising-append, rising-map}
-use Rattle.model.specs.Laws.Lists.{rising-mono, rising-below}
+use Rattle.model.specs.Laws.Lists.{
+  any-in,
+  any-false,
+  below-in,
+  below-lt,
+  below-length,
+  map-below-at,
+  map-in,
+  map-at,
+  rising-append,
+  rising-map,
+  rising-mono,
+  rising-below,
+}
 
 -- ---- one part
 

@@ -6,6 +6,7 @@ use Prim.Native.Nat.{ℕ, _+_, _≤_, _<_}
 use native.Mathlib.Omega.{arith}
 use native.Mathlib.Decide.{ℕ-discrete}
 use lib.Dec.{ltb, leb, eqb}
+use borrow.Author.Needs.{needs}
 use borrow.Author.Tests.{ltb-true, ltb-false, leb-true, leb-false, eqb-true, eqb-false, not-true, not-false, lt-ltb, le-ltb, le-leb, lt-leb, eq-eqb, ne-eqb}
 
 pub contra : {A : Type 0} {b : Bool} → b ≡ true → b ≡ false → A
@@ -76,6 +77,9 @@ cond-ext false z e = refl
 
 -- the tests of a path through the code, for `search tests`
 pub ruleset tests = (lt-ltb, le-ltb, le-leb, lt-leb, eq-eqb, ne-eqb)
+
+-- .. and the bounds of the walk beside them, for `search auto`
+pub ruleset auto = (needs, tests)
 
 -- a test that both holds and fails, as numbers for `omega`
 pub true-false : true ≡ false → 1 ≤ 0

@@ -1,5 +1,5 @@
 -- `planner::plan` meets its contract. The loop's invariant: the progress and the choices are those of the buses served.
-use Rattle.planner.proofs.Auto.{auto}
+use Rattle.model.specs.Laws.Tests.{auto}
 use mathlib.Core.Path.{_≡_, _∙_}
 use Prim.Native.Nat.{_≤_, _-_}
 use native.Mathlib.Nat.{le-antisymm}

@@ -21,15 +21,44 @@ use Rattle.model.specs.Plant.{smallest, largest, allOff, InRing}
 use Rattle.model.specs.Choosing.{commands}
 use Rattle.model.specs.Sheet.{opening, closing, sheetOf, sheet, written}
 use Rattle.model.specs.Reports.{reported, allFit, healthOf, commandsOf, blankRing, told, planned}
-use Rattle.model.specs.Refusals.{firstMet, sizeOutside, notOfRing, wordOfOtherKind, generatorFitAgain, tooShort, nextSheet, reportConditions, startRefusal}
-use Rattle.model.specs.Refusals.{stepRefusal}
+use Rattle.model.specs.Refusals.{
+  firstMet,
+  sizeOutside,
+  notOfRing,
+  wordOfOtherKind,
+  generatorFitAgain,
+  tooShort,
+  nextSheet,
+  reportConditions,
+  startRefusal,
+  stepRefusal,
+}
 use Rattle.model.specs.Answers.{Reply, refusedAnswer, refusedReply, servedAnswer, servedReply, replyBy, startReply, stepReply}
 use Rattle.model.specs.Laws.Tests.{contra, dec, dec-eq, or-cases, or-none}
 use Rattle.model.specs.Laws.Refusals.{size-bounds, refused-number}
 use Rattle.model.specs.Laws.Parts.{health-places, command-places}
 use Rattle.model.specs.Laws.Sheet.{sheetOf-length}
-use Rattle.theory.specs.Statements.Demand3.{PlantState, freshPlant, effect, afterWord, step, isServed, sheetLength, World, sheetFor, wordRefusal}
-use Rattle.theory.specs.Statements.Demand3.{StartMeets, too-small, too-large, too-short, Meets, no-part, no-word, no-room, Answered}
+use Rattle.theory.specs.Statements.Demand3.{
+  PlantState,
+  freshPlant,
+  effect,
+  afterWord,
+  step,
+  isServed,
+  sheetLength,
+  World,
+  sheetFor,
+  wordRefusal,
+  StartMeets,
+  too-small,
+  too-large,
+  too-short,
+  Meets,
+  no-part,
+  no-word,
+  no-room,
+  Answered,
+}
 use Rattle.theory.specs.Proofs.Steady.{Ready, Steady, sheet-is, steady-good}
 
 -- ---- the reply that has a number

@@ -18,8 +18,21 @@ use Rattle.model.specs.Laws.Tests.{contra, not-of, and-left, and-right, and-int
 use Rattle.model.specs.Laws.Lists.{all-cons, any-at, any-in, all-at, all-of, map-in, first-at}
 use Rattle.model.specs.Laws.Parts.{same-eq, same-refl}
 use Rattle.theory.specs.Theorems.Connected.{connected-leads, leads-connected}
-use Rattle.theory.specs.Proofs.Paths.{Ends, Uses, OnPath, at-generator, at-generator-breaker, at-bus-breaker, on-path, path-at, path-in, bus-breaker-on}
-use Rattle.theory.specs.Proofs.Paths.{breakers-on, line-on, tried-at}
+use Rattle.theory.specs.Proofs.Paths.{
+  Ends,
+  Uses,
+  OnPath,
+  at-generator,
+  at-generator-breaker,
+  at-bus-breaker,
+  on-path,
+  path-at,
+  path-in,
+  bus-breaker-on,
+  breakers-on,
+  line-on,
+  tried-at,
+}
 
 -- ---- parts of chosen paths
 

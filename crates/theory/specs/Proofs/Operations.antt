@@ -2,8 +2,24 @@
 use mathlib.Core.Path.{_≡_, refl, sym, _∙_, ap, ap₂}
 use mathlib.Core.Bool.{Bool, true, false, not, _&&_}
 use mathlib.Core.Logic.{_⊎_, inl, inr}
-use mathlib.Core.List.{List, [], _∷_, _++_, map, append-assoc, List·Memᴰ·head, List·Memᴰ·tail, List·Memᴰ·not-nil, List·Memᴰ·cases-cons, List·Permᴰ}
-use mathlib.Core.List.{List·Permᴰ·nil, List·Permᴰ·cons, List·Permᴰ·swap, List·Permᴰ·trans, Permᴰ·refl}
+use mathlib.Core.List.{
+  List,
+  [],
+  _∷_,
+  _++_,
+  map,
+  append-assoc,
+  List·Memᴰ·head,
+  List·Memᴰ·tail,
+  List·Memᴰ·not-nil,
+  List·Memᴰ·cases-cons,
+  List·Permᴰ,
+  List·Permᴰ·nil,
+  List·Permᴰ·cons,
+  List·Permᴰ·swap,
+  List·Permᴰ·trans,
+  Permᴰ·refl,
+}
 use mathlib.Core.Option.{some}
 use Prim.Native.Nat.{ℕ, suc, _+_, _*_, _≤_}
 use native.Mathlib.Omega.{arith}
@@ -19,8 +35,19 @@ use Rattle.model.specs.Lists.{_∈_}
 use Rattle.model.specs.Laws.Lists.{map-at, keep-at, keep-in}
 use Rattle.model.specs.Laws.Parts.{parts-in, parts-at, same-eq, same-refl}
 use Rattle.model.specs.Laws.Reports.{named-code}
-use Rattle.theory.specs.Statements.Demand3.{PlantState, Operation, operation, perform, performAll, commandNamed, withOperation, operations, phasesAt}
-use Rattle.theory.specs.Statements.Demand3.{decode, AnyOrder}
+use Rattle.theory.specs.Statements.Demand3.{
+  PlantState,
+  Operation,
+  operation,
+  perform,
+  performAll,
+  commandNamed,
+  withOperation,
+  operations,
+  phasesAt,
+  decode,
+  AnyOrder,
+}
 
 -- ---- performing
 

@@ -26,8 +26,21 @@ use Rattle.model.specs.Laws.Parts.{parts-at, command-places}
 use Rattle.theory.specs.Theorems.Locality.{Agree, choices-ext, commands-ext, commanded-in-ring, sheet-ext}
 use Rattle.theory.specs.Theorems.Interruption.{Fewer}
 use Rattle.theory.specs.Statements.Demand3.{PlantState, Operation, operation, performAll, Phases, decode, Performed, performed, World}
-use Rattle.theory.specs.Proofs.Operations.{perform-health, Struck, hit, miss, struck, perm-in, operation-at, opening-at, opening-in, closing-at}
-use Rattle.theory.specs.Proofs.Operations.{closing-in, any-order, decode-sheet}
+use Rattle.theory.specs.Proofs.Operations.{
+  perform-health,
+  Struck,
+  hit,
+  miss,
+  struck,
+  perm-in,
+  operation-at,
+  opening-at,
+  opening-in,
+  closing-at,
+  closing-in,
+  any-order,
+  decode-sheet,
+}
 
 -- ---- operations of the two phases, in any order
 

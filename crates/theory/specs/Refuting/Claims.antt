@@ -22,9 +22,31 @@ use Rattle.model.specs.Sheet.{opening, closing, sheet}
 use Rattle.model.specs.Reports.{healthOf, commandsOf, blankRing}
 use Rattle.model.specs.Refusals.{notOfRing, tooShort, startRefusal}
 use Rattle.model.specs.Answers.{Reply, allDark}
-use Rattle.theory.specs.Statements.Demand3.{Controller, PlantState, freshPlant, afterWord, afterWords, Operation, operation, performAll, Phases}
-use Rattle.theory.specs.Statements.Demand3.{sheetLength, decode, Call, step, Calls, _then_, replyTo, words, lent, isServed, World, excepted, shownAt}
-use Rattle.theory.specs.Statements.Demand3.{wordRefusal}
+use Rattle.theory.specs.Statements.Demand3.{
+  Controller,
+  PlantState,
+  freshPlant,
+  afterWord,
+  afterWords,
+  Operation,
+  operation,
+  performAll,
+  Phases,
+  sheetLength,
+  decode,
+  Call,
+  step,
+  Calls,
+  _then_,
+  replyTo,
+  words,
+  lent,
+  isServed,
+  World,
+  excepted,
+  shownAt,
+  wordRefusal,
+}
 use Rattle.theory.specs.Refuting.Runs.{ordered, bothPhases, run}
 
 -- a start, the calls after it, and one call more, on which a claim is tested

@@ -32,22 +32,113 @@ use Rattle.model.specs.Laws.Parts.{parts-at, same-refl}
 use Rattle.model.specs.Laws.Choosing.{choices-at}
 use Rattle.theory.specs.Theorems.Completeness.{de-energized-exactly}
 use Rattle.theory.specs.Theorems.Feeds.{reaches-usable, usable-reaches}
-use Rattle.theory.specs.Statements.Demand3.{Controller, PlantState, freshPlant, afterWords, Operation, operation, performAll, Phases, decode, Call, step}
-use Rattle.theory.specs.Statements.Demand3.{Calls, _then_, nothing, isStuckClosed, whole, longer, replyTo, words, lent, isServed, World, Performed, Ended}
-use Rattle.theory.specs.Statements.Demand3.{started, served, refused, Moment, in-first, in-second, excepted, Interrupted, in-start, between, in-call}
-use Rattle.theory.specs.Statements.Demand3.{shownAt, BusShown, RecordGiven, AsChosen, StartMeets, too-large, Meets, Answered, Holds, Demand3}
+use Rattle.theory.specs.Statements.Demand3.{
+  Controller,
+  PlantState,
+  freshPlant,
+  afterWords,
+  Operation,
+  operation,
+  performAll,
+  Phases,
+  decode,
+  Call,
+  step,
+  Calls,
+  _then_,
+  nothing,
+  isStuckClosed,
+  whole,
+  longer,
+  replyTo,
+  words,
+  lent,
+  isServed,
+  World,
+  Performed,
+  Ended,
+  started,
+  served,
+  refused,
+  Moment,
+  in-first,
+  in-second,
+  excepted,
+  Interrupted,
+  in-start,
+  between,
+  in-call,
+  shownAt,
+  BusShown,
+  RecordGiven,
+  AsChosen,
+  StartMeets,
+  too-large,
+  Meets,
+  Answered,
+  Holds,
+  Demand3,
+}
 use Rattle.theory.specs.Proofs.Operations.{opening-at, closing-at}
 use Rattle.theory.specs.Proofs.Answering.{Judged, met, fine, judge-start, judge-step, StepFine}
 use Rattle.theory.specs.Statements.Demand2.{FirstPermitted, found, not-found, earlier, Needed, ToOpen, ToClose, Serves, Demand2}
 use Rattle.theory.specs.Theorems.Demand2.{earlier-chosen, needed-commanded}
 use Rattle.theory.specs.Refuting.Runs.{ordered, ordered-perm, cut-perm, bothPhases, both-performed, run, run-ended, ended-begun}
 use Rattle.theory.specs.Refuting.Claims as claim
-use Rattle.theory.specs.Refuting.Claims.{Instance, differ, isDark, feedNumber, isClash, rises, onWorld, onPhases, ringSum, choicesSum, sum, choiceNumber}
-use Rattle.theory.specs.Refuting.Claims.{operationsDigest, due, refusedInVain, notRefused, recordChanged, bufferChanged, choicesLit, behindChanged}
-use Rattle.theory.specs.Refuting.Claims.{lengthChanged, darkThoughReached, litThoughUnreached, litByAnother, darkThoughFed, otherHealth, otherCommand}
-use Rattle.theory.specs.Refuting.Claims.{unfitAbove, onAbove, anyClash, otherChoice, newCommands, otherFirst, otherSecond, clashInFirst, clashInSecond}
-use Rattle.theory.specs.Refuting.Claims.{extraOpen, extraClose, hasOperation, otherOutcome, startOf, startDue, atCall, atServed, atPhases, atStart, atEnd}
-use Rattle.theory.specs.Refuting.Claims.{firstReply, fails3, fails2, Claim3, Claim2}
+use Rattle.theory.specs.Refuting.Claims.{
+  Instance,
+  differ,
+  isDark,
+  feedNumber,
+  isClash,
+  rises,
+  onWorld,
+  onPhases,
+  ringSum,
+  choicesSum,
+  sum,
+  choiceNumber,
+  operationsDigest,
+  due,
+  refusedInVain,
+  notRefused,
+  recordChanged,
+  bufferChanged,
+  choicesLit,
+  behindChanged,
+  lengthChanged,
+  darkThoughReached,
+  litThoughUnreached,
+  litByAnother,
+  darkThoughFed,
+  otherHealth,
+  otherCommand,
+  unfitAbove,
+  onAbove,
+  anyClash,
+  otherChoice,
+  newCommands,
+  otherFirst,
+  otherSecond,
+  clashInFirst,
+  clashInSecond,
+  extraOpen,
+  extraClose,
+  hasOperation,
+  otherOutcome,
+  startOf,
+  startDue,
+  atCall,
+  atServed,
+  atPhases,
+  atStart,
+  atEnd,
+  firstReply,
+  fails3,
+  fails2,
+  Claim3,
+  Claim2,
+}
 
 -- ---- what a test that passed says
 

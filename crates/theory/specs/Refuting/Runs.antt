@@ -9,8 +9,31 @@ use lib.ListN.{take, drop, take-append-drop}
 use Rattle.model.specs.Answers.{Reply}
 use Rattle.model.specs.Laws.Tests.{dec}
 use Rattle.model.specs.Laws.Lists.{none-some}
-use Rattle.theory.specs.Statements.Demand3.{Controller, PlantState, freshPlant, afterWords, Operation, performAll, Phases, decode, Call, Calls, nothing}
-use Rattle.theory.specs.Statements.Demand3.{_then_, replyTo, words, isServed, World, AnyOrder, Performed, performed, Ended, started, served, refused}
+use Rattle.theory.specs.Statements.Demand3.{
+  Controller,
+  PlantState,
+  freshPlant,
+  afterWords,
+  Operation,
+  performAll,
+  Phases,
+  decode,
+  Call,
+  Calls,
+  nothing,
+  _then_,
+  replyTo,
+  words,
+  isServed,
+  World,
+  AnyOrder,
+  Performed,
+  performed,
+  Ended,
+  started,
+  served,
+  refused,
+}
 
 -- the operations of a phase in the order performed: the sheet's, or the other way round
 unfoldable pub ordered : Bool → List Operation → List Operation

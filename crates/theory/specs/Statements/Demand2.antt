@@ -17,8 +17,27 @@ use Rattle.model.specs.Choosing.{permitted, addPath, choiceOf}
 use Rattle.model.specs.Reports.{blankRing}
 use Rattle.model.specs.Answers.{Reply}
 use Rattle.model.specs.Lists.{_∈_, RisingBy}
-use Rattle.theory.specs.Statements.Demand3.{Controller, PlantState, freshPlant, afterWords, Operation, Phases, decode, Calls, Call, Ended, World}
-use Rattle.theory.specs.Statements.Demand3.{Performed, replyTo, words, lent, isServed, StartMeets, Meets, Answered}
+use Rattle.theory.specs.Statements.Demand3.{
+  Controller,
+  PlantState,
+  freshPlant,
+  afterWords,
+  Operation,
+  Phases,
+  decode,
+  Calls,
+  Call,
+  Ended,
+  World,
+  Performed,
+  replyTo,
+  words,
+  lent,
+  isServed,
+  StartMeets,
+  Meets,
+  Answered,
+}
 
 -- the first permitted path of a list, after the paths ws; none where none is permitted
 pub data FirstPermitted (n : ℕ) (H : PartHealth) (ws : List Path) (tried : List Path) : Option Path → Type 0 where

@@ -16,8 +16,18 @@ use Rattle.model.specs.Choosing.{countedClosed, permitted, choose, chosen, plan
 use Rattle.model.specs.Laws.Tests.{contra, or-cases, or-left, or-right, dec, dec-eq, dec-lt}
 use Rattle.model.specs.Laws.Lists.{all-cons, any-at, any-in, first-at, first-in, none-some}
 use Rattle.theory.specs.Proofs.Geometry.{up-refl, up-next, up-next-right, up-through, up-nested, up-inj, up-inj-left, next-lt}
-use Rattle.theory.specs.Theorems.Connected.{Arc, Near, connected-leads, leads-connected, leads-mono, leads-trans, leads-sym, arc-leads, leads-arcs}
-use Rattle.theory.specs.Theorems.Connected.{leads-split}
+use Rattle.theory.specs.Theorems.Connected.{
+  Arc,
+  Near,
+  connected-leads,
+  leads-connected,
+  leads-mono,
+  leads-trans,
+  leads-sym,
+  arc-leads,
+  leads-arcs,
+  leads-split,
+}
 use Rattle.theory.specs.Proofs.Paths.{Ends, Uses, lower, upper, pathTo, path-at, tried}
 use Rattle.theory.specs.Proofs.Choosing.{Usable, Safe, counted-cons, counted-usable, permitted-at, permitted-of, chosen-ends, safe-chosen}
 

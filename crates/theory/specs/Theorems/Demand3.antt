@@ -29,16 +29,80 @@ use Rattle.theory.specs.Theorems.Completeness.{de-energized-exactly}
 use Rattle.theory.specs.Theorems.Feeds.{Single, no-clash, energized-fed, de-energized-fed, reaches-usable, usable-reaches}
 use Rattle.theory.specs.Theorems.Interruption.{Fewer, NoneStuckClosed, opening-single, closing-single}
 use Rattle.theory.specs.Theorems.Locality.{feed-ext}
-use Rattle.theory.specs.Statements.Demand3.{Controller, PlantState, freshPlant, effect, afterWord, afterWords, Operation, operation, performAll, Phases}
-use Rattle.theory.specs.Statements.Demand3.{decode, Call, step, Calls, nothing, _then_, replyTo, words, isServed, World, Performed, performed, Ended}
-use Rattle.theory.specs.Statements.Demand3.{started, served, refused, Moment, in-first, in-second, isStuckClosed, isEmpty, excepted, Interrupted}
-use Rattle.theory.specs.Statements.Demand3.{in-start, between, in-call, shownAt, BusShown, RecordGiven, AsChosen, wordRefusal, lent, Meets, Answered}
-use Rattle.theory.specs.Statements.Demand3.{Holds, Demand3}
+use Rattle.theory.specs.Statements.Demand3.{
+  Controller,
+  PlantState,
+  freshPlant,
+  effect,
+  afterWord,
+  afterWords,
+  Operation,
+  operation,
+  performAll,
+  Phases,
+  decode,
+  Call,
+  step,
+  Calls,
+  nothing,
+  _then_,
+  replyTo,
+  words,
+  isServed,
+  World,
+  Performed,
+  performed,
+  Ended,
+  started,
+  served,
+  refused,
+  Moment,
+  in-first,
+  in-second,
+  isStuckClosed,
+  isEmpty,
+  excepted,
+  Interrupted,
+  in-start,
+  between,
+  in-call,
+  shownAt,
+  BusShown,
+  RecordGiven,
+  AsChosen,
+  wordRefusal,
+  lent,
+  Meets,
+  Answered,
+  Holds,
+  Demand3,
+}
 use Rattle.theory.specs.Proofs.Operations.{perform-health, any-order, sheet-order}
-use Rattle.theory.specs.Proofs.Steady.{phasesOf, Replied, Steady, fit-of-kind, served-replied, served-decodes, transition-steady, some-of-prefix}
-use Rattle.theory.specs.Proofs.Steady.{first-fewer, first-done, second-fewer}
-use Rattle.theory.specs.Proofs.Answering.{start-served, start-fine, start-answered, start-ready, blank-fit, step-ready, step-answered, served-fine}
-use Rattle.theory.specs.Proofs.Answering.{step-served, step-refused}
+use Rattle.theory.specs.Proofs.Steady.{
+  phasesOf,
+  Replied,
+  Steady,
+  fit-of-kind,
+  served-replied,
+  served-decodes,
+  transition-steady,
+  some-of-prefix,
+  first-fewer,
+  first-done,
+  second-fewer,
+}
+use Rattle.theory.specs.Proofs.Answering.{
+  start-served,
+  start-fine,
+  start-answered,
+  start-ready,
+  blank-fit,
+  step-ready,
+  step-answered,
+  served-fine,
+  step-served,
+  step-refused,
+}
 
 -- the controller of the definitions
 abbrev pub controller : Controller

@@ -11,8 +11,27 @@ use borrow.Author.Tests.{not-true}
 use Rattle.model.specs.declared.Part.{Part}
 use Rattle.model.specs.declared.Feed.the-variants.{Dark, Fed, Clash}
 use Rattle.model.specs.Lists.{below, _∈_, more}
-use Rattle.model.specs.Plant.{PartHealth, PartCommands, generator, generatorBreaker, busBreaker, stuckOpen, stuckClosed, closed, up, Leads, connected}
-use Rattle.model.specs.Plant.{busBreakerClosed, fitGenerator, running, feeds, feeders, feedBy, busFeed, Reaches}
+use Rattle.model.specs.Plant.{
+  PartHealth,
+  PartCommands,
+  generator,
+  generatorBreaker,
+  busBreaker,
+  stuckOpen,
+  stuckClosed,
+  closed,
+  up,
+  Leads,
+  connected,
+  busBreakerClosed,
+  fitGenerator,
+  running,
+  feeds,
+  feeders,
+  feedBy,
+  busFeed,
+  Reaches,
+}
 use Rattle.model.specs.Priority.{Path, pathParts}
 use Rattle.model.specs.Choosing.{onPaths, countedClosed, choose, addPath, chosen, plan, commands}
 use Rattle.model.specs.Laws.Tests.{contra, not-of, and-left, and-right, and-intro, or-cases, or-left, or-right, dec, dec-eq}

@@ -10,8 +10,25 @@ use Rattle.model.specs.declared.Part.{Part}
 use Rattle.model.specs.declared.Choice.the-variants.{Dark}
 use Rattle.model.specs.declared.BusChoice.{BusChoice}
 use Rattle.model.specs.Lists.{below, _∈_}
-use Rattle.model.specs.Plant.{PartHealth, PartCommands, largest, parts, generator, generatorBreaker, busBreaker, fit, stuckOpen, closed, busBreakerClosed}
-use Rattle.model.specs.Plant.{InRing, running, feeds, feeders, feedBy, busFeed}
+use Rattle.model.specs.Plant.{
+  PartHealth,
+  PartCommands,
+  largest,
+  parts,
+  generator,
+  generatorBreaker,
+  busBreaker,
+  fit,
+  stuckOpen,
+  closed,
+  busBreakerClosed,
+  InRing,
+  running,
+  feeds,
+  feeders,
+  feedBy,
+  busFeed,
+}
 use Rattle.model.specs.Priority.{Path, pathBreakers, paths}
 use Rattle.model.specs.Choosing.{usable, countedClosed, isolated, permitted, choose, chosen, plan, commands, choiceOf, choices}
 use Rattle.model.specs.Sheet.{opening, closing, sheet}

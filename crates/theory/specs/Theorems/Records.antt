@@ -16,8 +16,22 @@ use Rattle.model.specs.declared.Report.{Report}
 use Rattle.model.specs.declared.Ring.{Ring}
 use Rattle.model.specs.Lists.{anyOf, _∈_}
 use Rattle.model.specs.Values.{number, samePart, wordNumber}
-use Rattle.model.specs.Plant.{PartHealth, PartCommands, smallest, largest, parts, fit, stuckOff, stuckOpen, stuckClosed, healthOfKind, generator, InRing}
-use Rattle.model.specs.Plant.{generatorBreaker, busBreaker}
+use Rattle.model.specs.Plant.{
+  PartHealth,
+  PartCommands,
+  smallest,
+  largest,
+  parts,
+  fit,
+  stuckOff,
+  stuckOpen,
+  stuckClosed,
+  healthOfKind,
+  generator,
+  InRing,
+  generatorBreaker,
+  busBreaker,
+}
 use Rattle.model.specs.Choosing.{commands, choices}
 use Rattle.model.specs.Reports.{reported, allFit, healthOf, commandsOf, healthPlaces, commandPlaces, blankRing, told, planned, withPlan}
 use Rattle.model.specs.Refusals.{sizeOutside, healthOutside, activeAbove, unplanned, badRecord}
@@ -32,8 +46,18 @@ use Rattle.theory.specs.Statements.Demand3.{freshPlant, afterWord, perfo
 use Rattle.theory.specs.Statements.Records.{Made, started, stepped, Arrays}
 use Rattle.theory.specs.Proofs.Operations.{sheet-order}
 use Rattle.theory.specs.Proofs.Steady.{not-commanded, Steady, served-decodes, steady-good}
-use Rattle.theory.specs.Proofs.Answering.{fullRoom, full-length, start-ready, start-served, fine-begun, step-ready, step-served, step-refused, StepFine}
-use Rattle.theory.specs.Proofs.Answering.{fine-served}
+use Rattle.theory.specs.Proofs.Answering.{
+  fullRoom,
+  full-length,
+  start-ready,
+  start-served,
+  fine-begun,
+  step-ready,
+  step-served,
+  step-refused,
+  StepFine,
+  fine-served,
+}
 use Rattle.theory.specs.Theorems.Demand3.{start-steady, step-steady}
 
 -- ---- a record that is made is good

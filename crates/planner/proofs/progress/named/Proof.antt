@@ -1,5 +1,5 @@
 -- `planner::progress::named` meets its contract.
-use Rattle.planner.proofs.Auto.{auto}
+use Rattle.model.specs.Laws.Tests.{auto}
 use Rattle.planner.proofs.progress.named.Statement.{statement}
 use Rattle.planner.proofs.progress.named.Tie as tie
 use borrow.Author.Tests.{eq-eqb, ne-eqb}

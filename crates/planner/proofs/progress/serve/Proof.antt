@@ -1,5 +1,5 @@
 -- `planner::progress::serve` meets its contract: the search finds the plan's path, which is taken.
-use Rattle.planner.proofs.Auto.{auto}
+use Rattle.model.specs.Laws.Tests.{auto}
 use Rattle.planner.specs.Progress.{serve-dark, serve-source, serve-path}
 use Rattle.planner.proofs.progress.serve.Statement.{statement}
 use Rattle.planner.proofs.progress.serve.Tie as tie

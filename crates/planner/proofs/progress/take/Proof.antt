@@ -1,5 +1,5 @@
 -- `planner::progress::take` meets its contract.
-use Rattle.planner.proofs.Auto.{auto}
+use Rattle.model.specs.Laws.Tests.{auto}
 use Rattle.planner.proofs.progress.take.Statement.{statement}
 use Rattle.planner.proofs.progress.take.Tie as tie
 use Rattle.model.specs.Reports.{healthOf}

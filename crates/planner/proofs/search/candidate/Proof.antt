@@ -1,5 +1,5 @@
 -- `planner::search::candidate` meets its contract.
-use Rattle.planner.proofs.Auto.{auto}
+use Rattle.model.specs.Laws.Tests.{auto}
 use Rattle.planner.proofs.search.candidate.Statement.{statement}
 use Rattle.planner.proofs.search.candidate.Tie as tie
 

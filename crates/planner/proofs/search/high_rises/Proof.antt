@@ -1,9 +1,8 @@
 -- `planner::search::high_rises` meets its contract.
-use Rattle.planner.proofs.Auto.{auto}
+use Rattle.model.specs.Laws.Tests.{auto, facts}
 use Rattle.planner.proofs.search.high_rises.Statement.{statement}
 use Rattle.planner.proofs.search.high_rises.Tie as tie
 use native.Mathlib.Omega.{arith}
-use Rattle.model.specs.Laws.Tests.{facts}
 use Rattle.planner.specs.Search.{high-by}
 
 up-requires : tie.Need-up-requires

@@ -1,5 +1,5 @@
 -- `planner::search::permitted` meets its contract.
-use Rattle.planner.proofs.Auto.{auto}
+use Rattle.model.specs.Laws.Tests.{auto}
 use Rattle.planner.proofs.search.permitted.Statement.{statement}
 use Rattle.planner.proofs.search.permitted.Tie as tie
 use native.Mathlib.Omega.{arith}

@@ -1,5 +1,5 @@
 -- `planner::search::rises` meets its contract.
-use Rattle.planner.proofs.Auto.{auto}
+use Rattle.model.specs.Laws.Tests.{auto}
 use Rattle.planner.proofs.search.rises.Statement.{statement}
 use Rattle.planner.proofs.search.rises.Tie as tie
 use native.Mathlib.Omega.{arith}

@@ -1,6 +1,6 @@
 -- `planner::search::search` meets its contract. Both loops' invariants: nothing is found yet, and the whole search is the search of what
 -- is left.
-use Rattle.planner.proofs.Auto.{auto}
+use Rattle.model.specs.Laws.Tests.{auto}
 use Rattle.planner.proofs.search.search.Statement.{statement}
 use Rattle.planner.proofs.search.search.Tie as tie
 use Prim.Native.Nat.{_-_}

@@ -1,5 +1,5 @@
 -- `planner::search::span_of` meets its contract.
-use Rattle.planner.proofs.Auto.{auto}
+use Rattle.model.specs.Laws.Tests.{auto}
 use Rattle.planner.proofs.search.span_of.Statement.{statement}
 use Rattle.planner.proofs.search.span_of.Tie as tie
 

@@ -1,4 +1,4 @@
--- `text::letter` meets its contract.
+-- `text::buses::letter` meets its contract.
 use borrow.Author.Needs.{needs}
 use Rattle.text.proofs.buses.letter.Statement.{statement}
 use Rattle.text.proofs.buses.letter.Tie as tie

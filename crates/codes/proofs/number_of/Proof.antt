@@ -1,0 +1,17 @@
+-- `codes::number_of` meets its contract.
+use borrow.Author.Needs.{needs}
+use Rattle.codes.proofs.number_of.Statement.{statement}
+use Rattle.codes.proofs.number_of.Tie as tie
+
+pub number-of-spec : {M : Type 1} → statement M
+number-of-spec =
+    tie.close
+    (tie.spec
+    (λ c. search needs)
+    (λ c. search needs)
+    (λ c. search needs)
+    (λ c. search needs)
+    (λ c. search needs)
+    (λ c. search needs)
+    (λ c. search needs)
+    (λ c. search needs))

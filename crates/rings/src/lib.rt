@@ -1,0 +1,103 @@
+// Ring states (document 01: ring records): the blank one, one that is told a report, and the answer that keeps one. Parts carry the
+// paper's numbers, from 1; places are indices from 0.
+ghost use mathlib.Core.Path.{_≡_};
+ghost use Rattle.model.specs.Reports.{places, healthOf, healthPlaces, reported, blankRing, told as toldRing};
+ghost use Rattle.model.specs.Answers.{refusedAnswer};
+ghost use Rattle.rings.specs.Words.{withValue};
+use model::BusChoice;
+use model::Choice;
+use model::Commands;
+use model::Health;
+use model::Outcome;
+use model::Part;
+use model::Report;
+use model::Ring;
+use model::RingAnswer;
+
+// The array with a value at a number, from 1; a number of no place changes nothing.
+fn with_value(values: [u8; 20], number: u8, value: u8) -> [u8; 20]
+    ensures { λ r. ⌜ r ≡ places (withValue values number value) ⌝ }
+{
+    if number < 1 || 20 < number {
+        return values;
+    }
+    let i = (number - 1) as usize;
+    let mut next = values;
+    next[i] = value;
+    next
+}
+
+// "The last word decides; one that repeats the present health is accepted."
+fn with_word(health: Health, report: Report) -> Health
+    ensures { λ r. ⌜ r ≡ healthPlaces (reported (healthOf health) report) ⌝ }
+{
+    let part = report.part;
+    let word = report.word;
+    let value = codes::number_of(word);
+    let mut next = health;
+    match part {
+        Part::Generator(number) => {
+            let generators = next.generators;
+            let reported = with_value(generators, number, value);
+            next.generators = reported;
+            next
+        }
+        Part::GeneratorBreaker(number) => {
+            let generator_breakers = next.generator_breakers;
+            let reported = with_value(generator_breakers, number, value);
+            next.generator_breakers = reported;
+            next
+        }
+        Part::BusBreaker(number) => {
+            let bus_breakers = next.bus_breakers;
+            let reported = with_value(bus_breakers, number, value);
+            next.bus_breakers = reported;
+            next
+        }
+    }
+}
+
+// What a report does to a ring before any command: its word's effect on the health.
+pub fn told(ring: Ring, report: Report) -> Ring
+    ensures { λ r. ⌜ r ≡ toldRing ring report ⌝ }
+{
+    let before = ring.health;
+    let after = with_word(before, report);
+    let mut next = ring;
+    next.health = after;
+    next
+}
+
+// n buses, "every part fit and ordered off or open".
+pub fn blank(n: u8) -> Ring
+    ensures { λ r. ⌜ r ≡ blankRing n ⌝ }
+{
+    Ring {
+        n,
+        health: Health {
+            generators: [0u8; 20],
+            generator_breakers: [0u8; 20],
+            bus_breakers: [0u8; 20],
+        },
+        commands: Commands {
+            generators: [false; 20],
+            generator_breakers: [false; 20],
+            bus_breakers: [false; 20],
+        },
+    }
+}
+
+// "Each has its number as the answer, the record as handed in and the buffer untouched."; "The choices of a refused
+// start or step .. are all dark".
+pub fn refused(number: u8, ring: Ring) -> RingAnswer
+    ensures { λ r. ⌜ r ≡ refusedAnswer number ring ⌝ }
+{
+    let dark = BusChoice {
+        choice: Choice::Dark,
+    };
+    RingAnswer {
+        outcome: Outcome::Refused(number),
+        ring,
+        choices: [dark; 20],
+    }
+}

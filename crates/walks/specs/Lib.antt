@@ -1,0 +1,3 @@
+-- What the walks meet, and the arrays that they fill.
+pub mod Arrays
+pub mod Walk
