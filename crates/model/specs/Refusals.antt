@@ -17,7 +17,19 @@ use Rattle.model.specs.Values.{number, wordNumber, reportValues}
 use Rattle.model.specs.Plant.{PartHealth, PartCommands, smallest, largest, parts, fit, healthOfKind}
 use Rattle.model.specs.Choosing.{commands}
 use Rattle.model.specs.Sheet.{sheet}
-use Rattle.model.specs.Reports.{fileSize, fileCount, fileCodes, fileWords, partNamed, wordNamed, healthOf, commandsOf, blankRing, told, planned}
+use Rattle.model.specs.Reports.{
+  fileSize,
+  fileCount,
+  fileCodes,
+  fileWords,
+  partNamed,
+  wordNamed,
+  healthOf,
+  commandsOf,
+  blankRing,
+  told,
+  planned,
+}
 
 -- the number of the first refusal of a list whose condition is met, 0 where none is
 unfoldable pub firstMet : List (ℕ × Bool) → ℕ

@@ -16,9 +16,28 @@ use Rattle.model.specs.Choosing.{countedClosed, permitted, choose}
 use Rattle.model.specs.Laws.Tests.{contra, not-of, and-left, and-right, and-intro, or-cases, or-right, iff, dec, dec-eq}
 use Rattle.model.specs.Laws.Lists.{all-cons, first-at, first-in, first-ext}
 use Rattle.theory.specs.Proofs.Geometry.{next-lt, up-refl, up-next-right}
-use Rattle.theory.specs.Theorems.Connected.{Near, leads-mono, leads-trans, leads-sym, arc-leads, connected-leads, leads-connected, leads-split}
+use Rattle.theory.specs.Theorems.Connected.{
+  Near,
+  leads-mono,
+  leads-trans,
+  leads-sym,
+  arc-leads,
+  connected-leads,
+  leads-connected,
+  leads-split,
+}
 use Rattle.theory.specs.Proofs.Paths.{lower, upper, Ends, lower-lt, upper-lt, path-at, path-in, tried-at}
-use Rattle.theory.specs.Proofs.Choosing.{Isolated, counted-stuck, counted-in, counted-at, counted-cons, Safe, safe-cons, permitted-at, permitted-of}
+use Rattle.theory.specs.Proofs.Choosing.{
+  Isolated,
+  counted-stuck,
+  counted-in,
+  counted-at,
+  counted-cons,
+  Safe,
+  safe-cons,
+  permitted-at,
+  permitted-of,
+}
 use Rattle.sources.specs.Sources.{mayFeed}
 use Rattle.walks.specs.Walk.{free, clear, Between, clear-at, clear-of}
 

@@ -89,9 +89,9 @@ pub fn serve(n: usize, health: Health, usable: [bool; 20], progress: Progress, b
     requires before { ⌜ progress ≡ served n (healthOf health) b ⌝ }
     ensures { λ r. ⌜ r ≡ served n (healthOf health) (b + 1) ⌝ }
 {
-    let breakers = health.bus_breakers;
+    let bus_breakers = health.bus_breakers;
     let owners = progress.owners;
-    match search::search(n, &usable, &breakers, &owners, b) {
+    match search::search(n, &usable, &bus_breakers, &owners, b) {
         Found::Nothing => darken(progress),
         Found::Path { source: g, rising } => take(n, health, progress, b, g, rising),
     }

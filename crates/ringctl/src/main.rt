@@ -1,4 +1,4 @@
-// The program: reads a fault file from standard input and prints its run. What it prints is proved in `text`: here is a read, a loop around
+// The program: reads a fault file from standard input and prints its run. What it prints is proved in `run`: here is a read, a loop around
 // `run::fill`, and a write.
 ghost use mathlib.Core.Path.{_≡_};
 ghost use Prim.Native.Nat.{_≤_};

@@ -1,4 +1,1 @@
--- The laws of the printed run.
-pub mod Lines
-pub mod Served
-pub mod Run
+pub mod Filling

@@ -1,125 +1,16 @@
-// The printed run of a fault file (document 01, "The printed run") as bytes in a lent buffer, piece by piece: its lines one at a time,
-// each with the ring state behind it. Places and reports are counted from 0.
+// The printed run of a fault file (document 01, "The printed run") as bytes in a lent buffer, piece by piece.
 ghost use mathlib.Core.Path.{_≡_};
-ghost use mathlib.Core.Bool.{false};
 ghost use mathlib.Core.List.{List, _++_};
-ghost use Prim.Native.Nat.{ℕ, _+_, _<_, _≤_};
+ghost use Prim.Native.Nat.{ℕ, _<_, _≤_};
 ghost use lib.Dec.{ltb};
 ghost use lib.ListN.{length, take, drop};
-ghost use Rattle.model.specs.Reports.{fileCount, blankRing, told, withPlan};
-ghost use Rattle.model.specs.Refusals.{firstMet, reportConditions, fileRefusal, badRecord};
-ghost use Rattle.model.specs.Text.{runRing, stateAt, runLines, printedRun, runLeft, cursorAt, Within, lineRoom};
-ghost use Rattle.run.specs.Lines.{Shown, Passed};
-use model::FileAnswer;
-use model::Report;
-use model::ReportAnswer;
-use model::Ring;
+ghost use Rattle.model.specs.Reports.{blankRing};
+ghost use Rattle.model.specs.Text.{runLines, printedRun, runLeft, cursorAt, Within, lineRoom};
 use model::RunCursor;
 use model::RunPiece;
 
 // Room for the longest line.
 const ROOM: usize = 553;
-
-// A line in the front of a lent buffer: the ring state behind it, and its length.
-struct Line {
-    ring: Ring,
-    length: usize,
-}
-
-// Line 0, for the start.
-fn start_line(n: u8, out: &mut [u8]) -> Line
-    requires { ⌜ (3 ≤ n) × (n ≤ 20) × (lineRoom ≤ length (now out)) ⌝ }
-    ensures { λ r. ⌜ Shown 0 (blankRing n) (now (out .entry)) (now (out .exit)) (r .ring) (r .length) ⌝ }
-{
-    let mut sheet = [0u8; 122];
-    let answer = transition::start(n, &mut sheet);
-    let choices = answer.choices;
-    let ring = answer.ring;
-    let length = lines::sheet_line(0, n, choices, &sheet, out);
-    Line { ring, length }
-}
-
-// Line i, of a report that is not refused.
-fn step_line(ring: Ring, report: Report, i: usize, out: &mut [u8]) -> Line
-    requires { ⌜
-        (badRecord ring ≡ false) × (firstMet (reportConditions (ring .n) report) ≡ 0)
-        × (i < 10000) × (lineRoom ≤ length (now out))
-        ⌝ }
-    ensures { λ r. ⌜ Shown i (told ring report) (now (out .entry)) (now (out .exit)) (r .ring) (r .length) ⌝ }
-{
-    let mut sheet = [0u8; 122];
-    let n = ring.n;
-    let answer = transition::step(ring, report, &mut sheet);
-    let choices = answer.choices;
-    let ring = answer.ring;
-    let length = lines::sheet_line(i, n, choices, &sheet, out);
-    Line { ring, length }
-}
-
-// The line of report i, counted from 0, of a file that is served: none of its reports is refused or missing.
-fn report_line(ring: Ring, file: &[u8], i: usize, out: &mut [u8]) -> Line
-    requires { ⌜
-        (fileRefusal (now file) ≡ 0) × (i < fileCount (now file))
-        × (ring ≡ withPlan (runRing (now file) i)) × (lineRoom ≤ length (now out))
-        ⌝ }
-    ensures { λ r. ⌜ Shown (i + 1) (runRing (now (file .entry)) (i + 1)) (now (out .entry)) (now (out .exit)) (r .ring) (r .length) ⌝ }
-{
-    let m = (file.len() - 3) / 2;
-    match reports::report_at(ring.n, &file[3..3 + m], &file[3 + m..], i) {
-        ReportAnswer::Read(report) => step_line(ring, report, i + 1, out),
-        ReportAnswer::Refused(_) => Line { ring, length: 0 },
-        ReportAnswer::Missing => Line { ring, length: 0 },
-    }
-}
-
-// A line as a piece of the run: the cursor behind it, and whether more follows.
-fn piece_of(line: Line, place: usize, more: bool) -> RunPiece
-    ensures { λ r. ⌜ r ≡ record { cursor = record { place = place; ring = line .ring }; length = line .length; more = more } ⌝ }
-{
-    let ring = line.ring;
-    RunPiece {
-        cursor: RunCursor { place, ring },
-        length: line.length,
-        more,
-    }
-}
-
-// The first line of a run: the refusal, or the header.
-fn first_line(ring: Ring, file: &[u8], out: &mut [u8]) -> RunPiece
-    requires { ⌜ (ring ≡ stateAt (now file) 0) × (lineRoom ≤ length (now out)) ⌝ }
-    ensures { λ r. ⌜ Passed (now (file .entry)) 0 (now (out .entry)) (now (out .exit)) r ⌝ }
-{
-    match reports::check_file(file) {
-        FileAnswer::Refused(k) => {
-            let length = lines::refused_text(k, out);
-            piece_of(Line { ring, length }, 1, false)
-        }
-        FileAnswer::Served(n, m) => {
-            let length = lines::header(n, m, out);
-            piece_of(Line { ring, length }, 1, true)
-        }
-    }
-}
-
-// The line at a cursor.
-fn next_line(cursor: RunCursor, file: &[u8], out: &mut [u8]) -> RunPiece
-    requires { ⌜ Within (now file) cursor × (lineRoom ≤ length (now out)) ⌝ }
-    ensures { λ r. ⌜ Passed (now (file .entry)) (cursor .place) (now (out .entry)) (now (out .exit)) r ⌝ }
-{
-    let place = cursor.place;
-    let ring = cursor.ring;
-    if place == 0 {
-        return first_line(ring, file, out);
-    }
-    let lines = (file.len() - 3) / 2 + 2;
-    let next = place + 1;
-    if place == 1 {
-        let line = start_line(file[0], out);
-        return piece_of(line, next, next < lines);
-    }
-    let line = report_line(ring, file, place - 2, out);
-    piece_of(line, next, next < lines)
-}
 
 // The cursor at the beginning of every run.
 pub fn begin() -> RunCursor
@@ -146,7 +37,7 @@ pub fn fill(first: RunCursor, file: &[u8], out: &mut [u8]) -> RunPiece
     let mut length = 0;
     let mut more = true;
     while more && ROOM <= out.len() - length {
-        let line = next_line(cursor, file, &mut out[length..]);
+        let line = cursor::next_line(cursor, file, &mut out[length..]);
         cursor = line.cursor;
         length += line.length;
         more = line.more;

@@ -1,4 +1,3 @@
 pub mod Statements
 pub mod Theorems
 pub mod Proofs
-pub mod Refuting

@@ -2,6 +2,3 @@
 pub mod Geometry
 pub mod Paths
 pub mod Choosing
-pub mod Operations
-pub mod Steady
-pub mod Answering

@@ -1,6 +1,3 @@
--- What is claimed: the demands, what a bus tries, the settled positions, the records that are made. Nothing is proved here.
-pub mod Demand3
-pub mod Demand2
+-- What is claimed of the definitions: what a bus tries, and the settled positions. Nothing is proved here.
 pub mod Priorities
 pub mod Settled
-pub mod Records

@@ -1,11 +1,8 @@
--- What a user cares about: the statements hold, and the laws of the plant that they rest on.
+-- What a user cares about: the statements hold, and the laws of the plant that the demands rest on.
 pub mod Connected
 pub mod Completeness
 pub mod Feeds
 pub mod Interruption
 pub mod Locality
-pub mod Demand3
-pub mod Demand2
 pub mod Priorities
 pub mod Settled
-pub mod Records

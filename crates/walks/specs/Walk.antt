@@ -13,7 +13,21 @@ use Rattle.model.specs.Lists.{anyOf, _∈_}
 use Rattle.model.specs.Plant.{stuckOpen, stuckClosed, next, up, arc, Leads, stay, rise, fall, connected}
 use Rattle.model.specs.Laws.Tests.{not-of, and-left, and-right, and-intro, or-cases, or-left, or-right, iff, dec, dec-eq}
 use Rattle.model.specs.Laws.Lists.{any-at, any-in}
-use Rattle.theory.specs.Proofs.Geometry.{Next, more, last, next-cases, next-lt, up-refl, up-zero, up-lt, up-next, up-next-right, up-inj, arc-at, arc-in}
+use Rattle.theory.specs.Proofs.Geometry.{
+  Next,
+  more,
+  last,
+  next-cases,
+  next-lt,
+  up-refl,
+  up-zero,
+  up-lt,
+  up-next,
+  up-next-right,
+  up-inj,
+  arc-at,
+  arc-in,
+}
 use Rattle.theory.specs.Theorems.Connected.{Arc, leads-arcs, connected-leads, leads-connected}
 use Rattle.walks.specs.Arrays.{setAll}
 

@@ -15,13 +15,39 @@ use Rattle.model.specs.declared.Ring.{Ring}
 use Rattle.model.specs.declared.Feed.the-variants as feed
 use Rattle.model.specs.Lists.{allOf, _∈_, below, keep, first, anyOf}
 use Rattle.model.specs.Plant.{busFeed, parts, healthOfKind, next, up, arc, connected, feeds, feeders, feedBy}
-use Rattle.model.specs.Choosing.{choices, onPaths, usable, countedClosed, isolated, permitted, choose, addPath, chosen, plan, commands, choiceOf}
+use Rattle.model.specs.Choosing.{
+  choices,
+  onPaths,
+  usable,
+  countedClosed,
+  isolated,
+  permitted,
+  choose,
+  addPath,
+  chosen,
+  plan,
+  commands,
+  choiceOf,
+}
 use Rattle.model.specs.Sheet.{written, opening, closing, sheetOf, sheet}
-use Rattle.model.specs.Reports.{allFit, blankRing, told, partNamed, reported, places, healthOf, commandsOf, healthPlaces, commandPlaces, planned, withPlan}
+use Rattle.model.specs.Reports.{
+  allFit,
+  blankRing,
+  told,
+  partNamed,
+  reported,
+  places,
+  healthOf,
+  commandsOf,
+  healthPlaces,
+  commandPlaces,
+  planned,
+  withPlan,
+}
 use Rattle.model.specs.Answers.{Reply, refusedReply, servedReply, startReply, allDark, refusedAnswer, servedAnswer, stepReply}
 use Rattle.model.specs.Laws.Lists.{all-at}
 use Rattle.model.specs.Laws.Refusals.{served-refused}
-use Rattle.theory.specs.Statements.Demand3.{
+use Rattle.demands.specs.Statements.Demand3.{
   Controller,
   PlantState,
   operation,
@@ -50,11 +76,11 @@ use Rattle.theory.specs.Statements.Demand3.{
   phasesAt,
   wordRefusal,
 }
-use Rattle.theory.specs.Theorems.Demand3.{controller, demand3}
-use Rattle.theory.specs.Statements.Demand2.{Demand2, earlier}
-use Rattle.theory.specs.Theorems.Demand2.{demand2}
-use Rattle.theory.specs.Refuting.Claims as claim
-use Rattle.theory.specs.Refuting.Claims.{
+use Rattle.demands.specs.Theorems.Demand3.{controller, demand3}
+use Rattle.demands.specs.Statements.Demand2.{Demand2, earlier}
+use Rattle.demands.specs.Theorems.Demand2.{demand2}
+use Rattle.demands.specs.Refuting.Claims as claim
+use Rattle.demands.specs.Refuting.Claims.{
   Instance,
   Claim3,
   Claim2,
@@ -109,10 +135,10 @@ use Rattle.theory.specs.Refuting.Claims.{
   atStart,
   atEnd,
 }
-use Rattle.theory.specs.Proofs.Answering.{fullRoom}
-use Rattle.theory.specs.Refuting.Facts.{report, generator1Off, breaker1Closed, breaker2Open, breaker2Fit}
-use Rattle.theory.specs.Refuting.Runs.{run-ended, ordered, bothPhases, worldAfter, afterCall, run}
-use Rattle.theory.specs.Refuting.Refuted.{refutes3, refutes2}
+use Rattle.demands.specs.Proofs.Answering.{fullRoom}
+use Rattle.demands.specs.Refuting.Facts.{report, generator1Off, breaker1Closed, breaker2Open, breaker2Fit}
+use Rattle.demands.specs.Refuting.Runs.{run-ended, ordered, bothPhases, worldAfter, afterCall, run}
+use Rattle.demands.specs.Refuting.Refuted.{refutes3, refutes2}
 use Rattle.wrong.specs.Designs.{
   designController,
   right,
@@ -237,6 +263,10 @@ stepServing f = stepSpoilt (λ ring r buffer reply. whenServed f reply)
 unfoldable pub startWrites : ℕ → ℕ → List (ℕ × ℕ) → Controller
 startWrites k l os = startServing (withBuffer (sheetWith k l os))
 
+-- the orders of a start at n = 3, and BB1 closed and opened behind them: closed, it joins G1 to G2
+abbrev joining : List (ℕ × ℕ)
+joining = (0, 1) ∷ (1, 1) ∷ (32, 1) ∷ (33, 1) ∷ (65, 1) ∷ (64, 1) ∷ (64, 0) ∷ []
+
 unfoldable pub stepWrites : ℕ → ℕ → List (ℕ × ℕ) → Controller
 stepWrites k l os = stepServing (withBuffer (sheetWith k l os))
 
@@ -265,7 +295,11 @@ faultAbove ring =
     let h = ring .health in
     record {
       n = ring .n;
-      health = record { generators = set (h .generators) 3 1; «generator_breakers» = h .«generator_breakers»; «bus_breakers» = h .«bus_breakers» };
+      health = record {
+        generators = set (h .generators) 3 1;
+        «generator_breakers» = h .«generator_breakers»;
+        «bus_breakers» = h .«bus_breakers»;
+      };
       commands = ring .commands;
     }
 
@@ -275,7 +309,11 @@ commandAbove ring =
     record {
       n = ring .n;
       health = ring .health;
-      commands = record { generators = c .generators; «generator_breakers» = set (c .«generator_breakers») 3 true; «bus_breakers» = c .«bus_breakers» };
+      commands = record {
+        generators = c .generators;
+        «generator_breakers» = set (c .«generator_breakers») 3 true;
+        «bus_breakers» = c .«bus_breakers»;
+      };
     }
 
 -- refuses the start of a ring of 20, every start, every report
@@ -343,8 +381,8 @@ wrongStarts =
     ∷ row (startWrites 5 0 ((0, 1) ∷ (1, 1) ∷ (32, 1) ∷ (33, 1) ∷ (65, 1) ∷ [])) claim.start-first (starting 3 fullRoom)
     ∷ row (startWrites 0 5 ((65, 1) ∷ (1, 1) ∷ (32, 1) ∷ (33, 1) ∷ (0, 1) ∷ [])) claim.start-second (starting 3 fullRoom)
     ∷ row (startWrites 0 1 ((99, 1) ∷ [])) claim.ends (starting 3 fullRoom)
-    ∷ row (startWrites 7 0 ((0, 1) ∷ (1, 1) ∷ (32, 1) ∷ (33, 1) ∷ (65, 1) ∷ (64, 1) ∷ (64, 0) ∷ [])) claim.clash-in-start-first (halted 6 (starting 3 fullRoom))
-    ∷ row (startWrites 0 7 ((0, 1) ∷ (1, 1) ∷ (32, 1) ∷ (33, 1) ∷ (65, 1) ∷ (64, 1) ∷ (64, 0) ∷ [])) claim.clash-in-start-second (halted 6 (starting 3 fullRoom))
+    ∷ row (startWrites 7 0 joining) claim.clash-in-start-first (halted 6 (starting 3 fullRoom))
+    ∷ row (startWrites 0 7 joining) claim.clash-in-start-second (halted 6 (starting 3 fullRoom))
     ∷ []
 
 -- steps that are refused in vain, or not refused; what a refused step alters, and a served one behind its sheet

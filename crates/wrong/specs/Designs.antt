@@ -36,10 +36,10 @@ use Rattle.model.specs.Refusals.{
   stepRefusal,
 }
 use Rattle.model.specs.Answers.{Reply, refusedReply, servedAnswer, servedReply, startReply, stepReply}
-use Rattle.theory.specs.Statements.Demand3.{Controller, isServed}
-use Rattle.theory.specs.Theorems.Demand3.{controller}
-use Rattle.theory.specs.Statements.Demand2.{earlier}
-use Rattle.theory.specs.Theorems.Demand2.{earlier-chosen}
+use Rattle.demands.specs.Statements.Demand3.{Controller, isServed}
+use Rattle.demands.specs.Theorems.Demand3.{controller}
+use Rattle.demands.specs.Statements.Demand2.{earlier}
+use Rattle.demands.specs.Theorems.Demand2.{earlier-chosen}
 
 -- ---- a controller made of a design
 
@@ -94,7 +94,8 @@ module _ (d : Design) where
 
   unfoldable pub designStep : Ring → Report → List ℕ → Reply
   designStep ring r buffer =
-      let k = firstMet ((9, designBad ring) ∷ (reportConditions (ring .n) r ++ ((8, tooShort (length buffer) (designSheet (told ring r))) ∷ []))) in
+      let short = tooShort (length buffer) (designSheet (told ring r)) in
+      let k = firstMet ((9, designBad ring) ∷ (reportConditions (ring .n) r ++ ((8, short) ∷ []))) in
       cond (eqb k 0) (designServed (told ring r) buffer) (refusedReply k ring buffer)
 
   unfoldable pub designController : Controller
@@ -142,7 +143,11 @@ chosenBy tries n H (suc k) = let ws = chosenBy tries n H k in addPath (first (pe
 
 -- the right design with another rule of what is tried
 unfoldable pub trying : (ℕ → ℕ → List Path) → Design
-trying tries = record { paths-of = λ n H b. first (permitted n H (chosenBy tries n H b)) (tries n b); parts-of = onPaths; sheet-of = sheetOf }
+trying tries = record {
+  paths-of = λ n H b. first (permitted n H (chosenBy tries n H b)) (tries n b);
+  parts-of = onPaths;
+  sheet-of = sheetOf;
+}
 
 -- the right design, planning for another health
 unfoldable pub planningFor : (ℕ → PartHealth → PartHealth) → Design
@@ -171,7 +176,8 @@ repeatsStart = planningFor (λ n H. allFit)
 -- "one plan for all faults": with any fault the plan for G1 off
 unfoldable pub onePlan : Design
 onePlan =
-    planningFor (λ n H. cond (anyOf (λ p. not (eqb (H p) 0)) (parts n)) (reported allFit (record { part = Generator 1; word = StuckOff })) allFit)
+    planningFor (λ n H.
+    cond (anyOf (λ p. not (eqb (H p) 0)) (parts n)) (reported allFit (record { part = Generator 1; word = StuckOff })) allFit)
 
 -- "sheets whose sizes don't count their orders": the sizes of the two phases exchanged
 unfoldable pub miscounts : Design

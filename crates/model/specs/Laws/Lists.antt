@@ -25,7 +25,7 @@ use native.Mathlib.Omega.{arith}
 use lib.ListN.{length, getD, length-append, List·getD-append}
 use lib.Seq.{getD-append-seam}
 use Rattle.model.specs.Lists.{below, keep, first, anyOf, allOf, _∈_, RisingBy, empty, more}
-use Rattle.model.specs.Laws.Tests.{contra, and-left, and-right, and-intro, or-cases, or-left, or-right, dec, dec-eq}
+use Rattle.model.specs.Laws.Tests.{never, contra, and-left, and-right, and-intro, or-cases, or-left, or-right, dec, dec-eq}
 
 -- every member of a list with one element more
 pub all-cons : {A : Type 0} {xs : List A} {x : A} (P : A → Type 0) → P x → ((y : A) → y ∈ xs → P y) → (y : A) → y ∈ x ∷ xs → P y
@@ -249,7 +249,7 @@ keep-apart f g apart (x ∷ xs) = go (keep-apart f g apart xs) (dec (f x)) (dec 
 -- ---- first
 
 pub none-some : {A P : Type 0} {x : A} {o : Option A} → o ≡ none → o ≡ some x → P
-none-some {x = x} {o} p q = let z : _≡_ {A = ℕ} 0 1 = cc in absurd (omega arith)
+none-some {x = x} {o} p q = never cc
 
 module _ {A : Type 0} (f : A → Bool) where
   pub first-at : (xs : List A) (x : A) → first f xs ≡ some x → (x ∈ xs) × (f x ≡ true)

@@ -260,4 +260,5 @@ health-held h s = λ i. record {
 pub places-held : (H : PartHealth) → healthPlaces (healthOf (healthPlaces H)) ≡ healthPlaces H
 unfolding healthPlaces
 places-held H =
-    sym (health-held (healthPlaces H) (record { generators = places-length _; generator-breakers = places-length _; bus-breakers = places-length _ }))
+    sym (health-held (healthPlaces H)
+    (record { generators = places-length _; generator-breakers = places-length _; bus-breakers = places-length _ }))

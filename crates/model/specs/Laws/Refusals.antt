@@ -3,7 +3,6 @@ use mathlib.Core.Path.{_≡_, sym, _∙_, ap}
 use mathlib.Core.Bool.{true, false, cond}
 use mathlib.Core.Logic.{_⊎_, inl, inr, _≢_}
 use Prim.Native.Nat.{ℕ, _≤_, _<_}
-use native.Mathlib.Omega.{arith}
 use lib.Dec.{ltb, eqb}
 use borrow.Author.Tests.{ltb-false, lt-ltb, le-ltb, ne-eqb}
 use Rattle.model.specs.declared.Ring.{Ring}
@@ -13,7 +12,7 @@ use Rattle.model.specs.Lists.{anyOf}
 use Rattle.model.specs.Values.{outcomeNumber, outcomeOf}
 use Rattle.model.specs.Plant.{smallest, largest}
 use Rattle.model.specs.Refusals.{sizeOutside, badRecord}
-use Rattle.model.specs.Laws.Tests.{or-none, or-right, dec, dec-eq}
+use Rattle.model.specs.Laws.Tests.{never, or-none, or-right, dec, dec-eq}
 
 -- the outcome that has a number has that number
 pub outcome-number : (k : ℕ) → outcomeNumber (outcomeOf k) ≡ k
@@ -47,7 +46,7 @@ inside n p q = rw (le-ltb n 3, le-ltb 20 n)
 
 -- no outcome is both served and refused
 pub served-refused : {A : Type 0} {k : ℕ} {o : Outcome} → o ≡ outcome.Served → o ≡ outcome.Refused k → A
-served-refused {k = k} {o} p q = let z : _≡_ {A = ℕ} 0 1 = cc in absurd (omega arith)
+served-refused {k = k} {o} p q = never cc
 
 -- o is the outcome of number k
 pub outcome-is : (k : ℕ) (o : Outcome) → o ≡ outcomeOf k → (o ≡ outcomeOf k) × (outcomeNumber o ≡ k)

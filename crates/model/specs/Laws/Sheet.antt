@@ -29,5 +29,5 @@ unfolding sheet opening closing
 sheet-fits n old new h =
     let f : Part → Bool = λ p. old p && not (new p) in
     let g : Part → Bool = λ p. not (old p) && new p in
-    let k : length (keep f (parts n)) + length (keep g (parts n)) ≤ length (parts n) = keep-apart f g (λ p. one-way (old p) (new p)) (parts n) in
+    let k = keep-apart f g (λ p. one-way (old p) (new p)) (parts n) in
     omega (arith, sheetOf-length (keep f (parts n)) (keep g (parts n)), parts-length n)

@@ -7,10 +7,29 @@ use native.Mathlib.Omega.{arith}
 use native.Mathlib.Decide.{ℕ-discrete}
 use lib.Dec.{ltb, leb, eqb}
 use borrow.Author.Needs.{needs}
-use borrow.Author.Tests.{ltb-true, ltb-false, leb-true, leb-false, eqb-true, eqb-false, not-true, not-false, lt-ltb, le-ltb, le-leb, lt-leb, eq-eqb, ne-eqb}
+use borrow.Author.Tests.{
+  ltb-true,
+  ltb-false,
+  leb-true,
+  leb-false,
+  eqb-true,
+  eqb-false,
+  not-true,
+  not-false,
+  lt-ltb,
+  le-ltb,
+  le-leb,
+  lt-leb,
+  eq-eqb,
+  ne-eqb,
+}
+
+-- 0 is not 1: two cases of a type that are said to be one bring this about
+pub never : {A : Type 0} → _≡_ {A = ℕ} 0 1 → A
+never e = absurd (omega arith)
 
 pub contra : {A : Type 0} {b : Bool} → b ≡ true → b ≡ false → A
-contra {b = b} p q = let z : _≡_ {A = ℕ} 0 1 = cc in absurd (omega arith)
+contra {b = b} p q = never cc
 
 pub not-of : (b : Bool) → b ≡ false → not b ≡ true
 not-of b e = rw e

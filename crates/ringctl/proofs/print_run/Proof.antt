@@ -6,7 +6,7 @@ use lib.Seq.{length-take-le}
 use borrow.Author.Needs.{needs}
 use borrow.Author.Tests.{ltb-true}
 use Rattle.model.specs.Text.{runLeft, Within}
-use Rattle.run.specs.Lines.{left-shorter}
+use Rattle.run.specs.Filling.{left-shorter}
 use Rattle.ringctl.proofs.print_run.Statement.{statement}
 use Rattle.ringctl.proofs.print_run.Tie as tie
 

@@ -1,6 +1,6 @@
 -- `begin`: no line is passed, and every run has a first line.
 use borrow.Author.Needs.{needs}
-use Rattle.run.specs.Run.{at-beginning}
+use Rattle.cursor.specs.Run.{at-beginning}
 use Rattle.run.proofs.begin.Statement.{statement}
 use Rattle.run.proofs.begin.Tie as tie
 

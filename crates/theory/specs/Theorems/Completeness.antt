@@ -29,7 +29,16 @@ use Rattle.theory.specs.Theorems.Connected.{
   leads-split,
 }
 use Rattle.theory.specs.Proofs.Paths.{Ends, Uses, lower, upper, pathTo, path-at, tried}
-use Rattle.theory.specs.Proofs.Choosing.{Usable, Safe, counted-cons, counted-usable, permitted-at, permitted-of, chosen-ends, safe-chosen}
+use Rattle.theory.specs.Proofs.Choosing.{
+  Usable,
+  Safe,
+  counted-cons,
+  counted-usable,
+  permitted-at,
+  permitted-of,
+  chosen-ends,
+  safe-chosen,
+}
 
 -- ---- the number of least distance that passes a test
 
@@ -210,7 +219,8 @@ module _ (n : ℕ) (H : PartHealth) (ws : List Path) (safe : Safe n H ws) (k : �
             reach : (x : Path) → x ∈ ws → Near n (countedClosed n H ws) (Inside n d v) (x .source)
                 → Leads n (countedClosed n H ws) (x .source) v
             reach x mx t =
-                let e : t .0 ≡ v = arm .same (t .0) v (t .1 .0) hv (omega (arith, t .1 .1, nearest (t .0) (t .1 .0) (reached-of (t .0) mx (t .1 .0) (t .2)))) in
+                let near = nearest (t .0) (t .1 .0) (reached-of (t .0) mx (t .1 .0) (t .2)) in
+                let e : t .0 ≡ v = arm .same (t .0) v (t .1 .0) hv (omega (arith, t .1 .1, near)) in
                 rw e at (t .2)
 
             go : Leads n (countedClosed n H ws) (a .source) (b .source)

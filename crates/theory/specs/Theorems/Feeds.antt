@@ -34,9 +34,18 @@ use Rattle.model.specs.Plant.{
 }
 use Rattle.model.specs.Priority.{Path, pathParts}
 use Rattle.model.specs.Choosing.{onPaths, countedClosed, choose, addPath, chosen, plan, commands}
-use Rattle.model.specs.Laws.Tests.{contra, not-of, and-left, and-right, and-intro, or-cases, or-left, or-right, dec, dec-eq}
+use Rattle.model.specs.Laws.Tests.{never, contra, not-of, and-left, and-right, and-intro, or-cases, or-left, or-right, dec, dec-eq}
 use Rattle.model.specs.Laws.Lists.{below-in, below-lt, keep-at, keep-in, Rising, rising-below, rising-keep, none-some}
-use Rattle.theory.specs.Theorems.Connected.{Arc, connected-leads, leads-connected, leads-mono, leads-trans, leads-sym, arc-leads, leads-arcs}
+use Rattle.theory.specs.Theorems.Connected.{
+  Arc,
+  connected-leads,
+  leads-connected,
+  leads-mono,
+  leads-trans,
+  leads-sym,
+  arc-leads,
+  leads-arcs,
+}
 use Rattle.theory.specs.Proofs.Paths.{Ends, Uses, pathTo, path-in, generator-on, source-on, breaker-on}
 use Rattle.theory.specs.Proofs.Choosing.{on-at, on-in, Usable, Safe, counted-in, counted-usable, safe-chosen}
 use Rattle.theory.specs.Theorems.Completeness.{complete, chosen-usable}
@@ -92,8 +101,8 @@ module _ (n : ℕ) (H : PartHealth) (C : PartCommands) (b : ℕ) where
   no-clash s g h c = go (feeders n H C b) refl
     where
       go : (l : List ℕ) → feeders n H C b ≡ l → ⊥
-      go [] e = let q : Dark ≡ Clash g h = rw e at c in let z : _≡_ {A = ℕ} 0 1 = cc in omega arith
-      go (x ∷ []) e = let q : Fed (suc x) ≡ Clash g h = rw e at c in let z : _≡_ {A = ℕ} 0 1 = cc in omega arith
+      go [] e = let q : Dark ≡ Clash g h = rw e at c in never cc
+      go (x ∷ []) e = let q : Fed (suc x) ≡ Clash g h = rw e at c in never cc
       go (x ∷ y ∷ r) e =
           let l : x < y = rising-two (rw e at feeders-rise) in
           let t = feeder-at x (rw e (List·Memᴰ·head refl)) in
@@ -169,7 +178,8 @@ path-leads : {n : ℕ} {w : Path} (D : ℕ → Bool) → Ends n w → ((i : ℕ)
 path-leads {n} {w} D h f = go (w .rising) f
   where
     go : (r : Bool)
-        → ((i : ℕ) → i < n → up n (cond r (w .source) (w .bus)) i < up n (cond r (w .source) (w .bus)) (cond r (w .bus) (w .source)) → D i ≡ true)
+        → ((i : ℕ) → i < n → up n (cond r (w .source) (w .bus)) i < up n (cond r (w .source) (w .bus)) (cond r (w .bus) (w .source))
+        → D i ≡ true)
         → Leads n D (w .source) (w .bus)
     go true f = arc-leads n D (w .source) (w .bus) (h .source) (h .bus) f
     go false f = leads-sym (arc-leads n D (w .bus) (w .source) (h .bus) (h .source) f)

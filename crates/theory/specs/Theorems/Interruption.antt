@@ -6,7 +6,18 @@ use mathlib.Core.Logic.{_⊎_, inl, inr}
 use Prim.Native.Nat.{ℕ, _<_}
 use native.Mathlib.Omega.{arith}
 use Rattle.model.specs.declared.Part.{Part}
-use Rattle.model.specs.Plant.{PartHealth, PartCommands, generator, generatorBreaker, busBreaker, fitGenerator, stuckOpen, stuckClosed, closed, InRing}
+use Rattle.model.specs.Plant.{
+  PartHealth,
+  PartCommands,
+  generator,
+  generatorBreaker,
+  busBreaker,
+  fitGenerator,
+  stuckOpen,
+  stuckClosed,
+  closed,
+  InRing,
+}
 use Rattle.model.specs.Choosing.{chosen, commands}
 use Rattle.model.specs.Laws.Tests.{or-left}
 use Rattle.model.specs.Laws.Parts.{at-index}

@@ -123,7 +123,8 @@ distinct-shorter {A} (one-more {x = x} {xs = xs} g d) ys f = go (λ zs h. distin
         → (front : List A) × (back : List A) × (ys ≡ front ++ (x ∷ back))
         → suc (length xs) ≤ length ys
     go r t =
-        let shorter = r (t .0 ++ t .1) (λ y m. other (t .0) (t .1) y m (List·Memᴰ·append-cases (t .0) (rw (t .2) at (f y (List·Memᴰ·tail m))))) in
+        let shorter = r (t .0 ++ t .1)
+        (λ y m. other (t .0) (t .1) y m (List·Memᴰ·append-cases (t .0) (rw (t .2) at (f y (List·Memᴰ·tail m))))) in
         omega (arith, ap length (t .2), length-append (t .0) (x ∷ t .1), length-append (t .0) (t .1))
 
 -- a bus tries as many generators as there are
@@ -157,11 +158,13 @@ flat-length n b (one-more {x = x} {xs = xs} g d) = go (flat-length n b d) (dec-e
     joined : length (pathsFrom n b x ++ flatMap (pathsFrom n b) xs) ≡ length (pathsFrom n b x) + length (flatMap (pathsFrom n b) xs)
     joined = length-append (pathsFrom n b x) (flatMap (pathsFrom n b) xs)
 
-    go : (b ∈ xs → suc (length (flatMap (pathsFrom n b) xs)) ≡ 2 * length xs) × ((b ∈ xs → ⊥) → length (flatMap (pathsFrom n b) xs) ≡ 2 * length xs)
+    go : (b ∈ xs → suc (length (flatMap (pathsFrom n b) xs)) ≡ 2 * length xs)
+        × ((b ∈ xs → ⊥) → length (flatMap (pathsFrom n b) xs) ≡ 2 * length xs)
         → (x ≡ b) ⊎ (x ≢ b)
         → (b ∈ x ∷ xs → suc (length (pathsFrom n b x ++ flatMap (pathsFrom n b) xs)) ≡ 2 * suc (length xs)) ×
         ((b ∈ x ∷ xs → ⊥) → length (pathsFrom n b x ++ flatMap (pathsFrom n b) xs) ≡ 2 * suc (length xs))
-    go ih (inl e) = (λ m. omega (arith, joined, own-length n b x e, ih .1 (λ k. g (Memᴰ·cast e k))), λ f. absurd (f (List·Memᴰ·head (sym e))))
+    go ih (inl e) =
+        (λ m. omega (arith, joined, own-length n b x e, ih .1 (λ k. g (Memᴰ·cast e k))), λ f. absurd (f (List·Memᴰ·head (sym e))))
     go ih (inr e) = (
       λ m. omega (arith, joined, from-length n b x e, ih .0 (later (List·Memᴰ·cases-cons m))),
       λ f. omega

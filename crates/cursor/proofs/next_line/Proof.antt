@@ -1,0 +1,86 @@
+-- `next_line`: the place tells which line is next; behind the first the file is served, and has the length that its count says.
+use mathlib.Core.Path.{_≡_}
+use Prim.Native.Nat.{_+_, _-_, _≤_}
+use native.Mathlib.Omega.{arith}
+use denote.Ref.{now}
+use borrow.Author.Needs.{needs}
+use Rattle.model.specs.Reports.{fileCount}
+use Rattle.model.specs.Refusals.{fileRefusal}
+use Rattle.model.specs.Text.{runRing}
+use Rattle.cursor.specs.Run.{Served, file-served, first-state, behind-first, report-state, passed-line}
+use Rattle.cursor.proofs.next_line.Statement.{statement}
+use Rattle.cursor.proofs.next_line.Tie as tie
+
+first-line-requires : tie.Need-first-line-requires
+first-line-requires c κs =
+    let s = c .before .before .before .before .before in
+    (first-state (s .pre .0) (omega arith), s .pre .1)
+
+returns : tie.Need-returns
+returns c =
+    let s = c .before .before .before .before .before .before .before .before in
+    let e : s .args .cursor .place ≡ 0 = omega arith in
+    rw e (c .before .before .first-line .ensures)
+
+-- behind the first line the file is served
+behind : (d : tie.Else1) → let a = d .before .before .before .before .args in
+    (fileRefusal (now (a .file)) ≡ 0) × Served (now (a .file)) × (a .cursor .place ≤ fileCount (now (a .file)) + 1)
+behind d =
+    let s = d .before .before .before .before in
+    let t = behind-first (s .pre .0) (λ e. omega (arith, d .if1 .left)) in
+    (t .0, file-served _ (t .0), t .1)
+
+sub-lines : tie.Need-sub-lines
+sub-lines c = omega (arith, behind c .1 .whole)
+
+add-next : tie.Need-add-next
+add-next c = omega (arith, behind c .2, behind c .1 .few)
+
+shared-slice-read-start-line : tie.Need-shared-slice-read-start-line
+shared-slice-read-start-line c = search (needs, behind (c .before .before) .1 .whole)
+
+start-line-requires : tie.Need-start-line-requires
+start-line-requires c κs =
+    let d = c .before .before .before in
+    (behind d .1 .big, behind d .1 .small, d .before .before .before .before .pre .1)
+
+returns-2 : tie.Need-returns-2
+unfolding runRing
+returns-2 c =
+    let d = c .before .before .before .before .before .before .before in
+    passed-line 0 _ _ _ (behind d .0) (omega arith) (c .before .before .before .start-line .ensures) (c .piece-of .ensures)
+    (omega arith) (omega arith) (omega (arith, behind d .1 .whole))
+
+report-line-requires : tie.Need-report-line-requires
+report-line-requires c κs =
+    let d = c .before .before in
+    let s = d .before .before .before .before in
+    (behind d .0, omega (arith, behind d .2), report-state (s .pre .0) _ (omega arith), s .pre .1)
+
+returns-3 : tie.Need-returns-3
+returns-3 c =
+    let d = c .before .before .before .before .before .before in
+    let i = d .before .before .before .before .args .cursor .place - 2 + 1 in
+    passed-line i _ _ _ (behind d .0) (omega (arith, behind d .2)) (c .before .before .before .report-line .ensures)
+    (c .piece-of2 .ensures) (omega arith) (omega arith) (omega (arith, behind d .1 .whole))
+
+pub next-line-spec : {M : Type 1} → statement M
+next-line-spec =
+    tie.close
+    (tie.spec
+    first-line-requires
+    (λ c. search needs)
+    returns
+    sub-lines
+    (λ c. search needs)
+    add-next
+    shared-slice-read-start-line
+    start-line-requires
+    (λ c κs. search needs)
+    (λ c. search needs)
+    returns-2
+    (λ c. search needs)
+    report-line-requires
+    (λ c κs. search needs)
+    (λ c. search needs)
+    returns-3)

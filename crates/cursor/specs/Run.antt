@@ -1,0 +1,329 @@
+-- The run of a file that is served: its lines, its reports and its ring states. Reports are counted from 0.
+use mathlib.Core.Path.{_≡_, refl, sym, _∙_, ap}
+use mathlib.Core.Bool.{Bool, true, false, not, cond}
+use mathlib.Core.Logic.{_⊎_, inl, inr, _≢_}
+use mathlib.Core.List.{List, [], _∷_}
+use Prim.Native.Nat.{ℕ, zero, suc, _+_, _-_, _*_, _/_, _≤_, _<_}
+use native.Mathlib.Numerals.{add-one, add-two}
+use native.Mathlib.Omega.{arith}
+use lib.Dec.{eqb, ltb}
+use lib.ListN.{length, getD, take, drop, length-take, length-drop, length-map, length-append}
+use lib.Seq.{take-all}
+use borrow.Author.Tests.{eqb-true, ltb-false, lt-ltb, ne-eqb, not-false}
+use Rattle.model.specs.declared.Report.{Report}
+use Rattle.model.specs.declared.Ring.{Ring}
+use Rattle.model.specs.declared.ReportAnswer.{ReportAnswer}
+use Rattle.model.specs.declared.ReportAnswer.the-variants.{Read, Refused}
+use Rattle.model.specs.declared.FileAnswer.the-variants as file
+use Rattle.model.specs.declared.RunCursor.{RunCursor}
+use Rattle.model.specs.declared.RunPiece.{RunPiece}
+use Rattle.model.specs.Lists.{below}
+use Rattle.model.specs.Plant.{smallest, largest}
+use Rattle.model.specs.Reports.{fileSize, fileCount, fileCodes, fileWords, blankRing, told, withPlan}
+use Rattle.model.specs.Refusals.{
+  firstMet,
+  orElse,
+  sizeOutside,
+  reportConditions,
+  reportAnswer,
+  reportRefusal,
+  reportsRefusal,
+  fileRefusal,
+  badRecord,
+}
+use Rattle.model.specs.Answers.{reportAt, fileAnswer}
+use Rattle.model.specs.Text.{
+  ascii,
+  header,
+  refusedText,
+  line,
+  transitionLine,
+  toldAnswer,
+  runRing,
+  servedLines,
+  refusedLines,
+  runLines,
+  printedRun,
+  runLeft,
+  stateAt,
+  cursorAt,
+  Within,
+}
+use Rattle.model.specs.Laws.Tests.{never, dec-eq}
+use Rattle.model.specs.Laws.Lists.{below-length, map-below-at}
+use Rattle.model.specs.Laws.Reports.{ReadOrRefused, read-or-refused}
+use Rattle.model.specs.Laws.Refusals.{size-bounds}
+use Rattle.cursor.specs.Lines.{Stored, Shown, Passed}
+use Rattle.cursor.specs.Served.{start-good, next-good}
+
+-- ---- a file that is not refused
+
+-- no file is both served and refused
+either : {n m k : ℕ} → file.Served n m ≡ file.Refused k → ⊥
+either e = never cc
+
+-- a first refusal of none: neither refuses
+or-else : (k l : ℕ) → orElse k l ≡ 0 → (k ≡ 0) × (l ≡ 0)
+or-else k l e = go (dec-eq k 0)
+  where
+    go : (k ≡ 0) ⊎ (k ≢ 0) → (k ≡ 0) × (l ≡ 0)
+    go (inl z) = (z, rw z at e)
+    go (inr z) = absurd (z (rw (ne-eqb k 0 z) at e))
+
+-- a first condition that is not met
+or-zero : (t : Bool) (k l : ℕ) → 0 < k → cond t k l ≡ 0 → (t ≡ false) × (l ≡ 0)
+or-zero true k l h e = absurd (omega (arith, e))
+or-zero false k l h e = (refl, e)
+
+-- what a file that is not refused is: 2, 3 and 4 are not met, and no report is refused
+pub record Served (f : List ℕ) : Type 0 where
+  pub big : smallest ≤ fileSize f
+  pub small : fileSize f ≤ largest
+  pub few : fileCount f ≤ 4096
+  pub whole : length f ≡ 3 + 2 * fileCount f
+  pub reports : reportsRefusal (fileSize f) (fileCodes f) (fileWords f) ≡ 0
+
+pub file-served : (f : List ℕ) → fileRefusal f ≡ 0 → Served f
+unfolding fileRefusal firstMet
+file-served f e =
+    let t = or-else head (reportsRefusal (fileSize f) (fileCodes f) (fileWords f)) e in
+    let one = or-zero (ltb (length f) 3) 1 _ (omega arith) (t .0) in
+    let two = or-zero (sizeOutside (fileSize f)) 2 _ (omega arith) (one .1) in
+    let three = or-zero (ltb 4096 (fileCount f)) 3 _ (omega arith) (two .1) in
+    let four = or-zero (not (eqb (length f) (3 + 2 * fileCount f))) 4 0 (omega arith) (three .1) in
+    let size = size-bounds (fileSize f) (two .0) in
+    record {
+      big = size .0;
+      small = size .1;
+      few = ltb-false 4096 (fileCount f) (three .0);
+      whole = eqb-true (length f) (3 + 2 * fileCount f) (not-false _ (four .0));
+      reports = t .1;
+    }
+  where
+    head : ℕ
+    head =
+        firstMet
+        ((1, ltb (length f) 3)
+        ∷ (2, sizeOutside (fileSize f))
+        ∷ (3, ltb 4096 (fileCount f))
+        ∷ (4, not (eqb (length f) (3 + 2 * fileCount f)))
+        ∷ [])
+
+-- the answers to a file
+module _ (f : List ℕ) where
+  pub answer-refused : (k : ℕ) → fileAnswer f ≡ file.Refused k → (fileRefusal f ≢ 0) × (k ≡ fileRefusal f)
+  unfolding fileAnswer
+  answer-refused k e = go (dec-eq (fileRefusal f) 0)
+    where
+      go : (fileRefusal f ≡ 0) ⊎ (fileRefusal f ≢ 0) → (fileRefusal f ≢ 0) × (k ≡ fileRefusal f)
+      go (inl z) = let t : file.Served (fileSize f) (fileCount f) ≡ file.Refused k = rw z at e in absurd (either t)
+      go (inr z) = let t : file.Refused (fileRefusal f) ≡ file.Refused k = rw (ne-eqb (fileRefusal f) 0 z) at e in (z, cc)
+
+  pub answer-served : (n m : ℕ) → fileAnswer f ≡ file.Served n m → (fileRefusal f ≡ 0) × (n ≡ fileSize f) × (m ≡ fileCount f)
+  unfolding fileAnswer
+  answer-served n m e = go (dec-eq (fileRefusal f) 0)
+    where
+      go : (fileRefusal f ≡ 0) ⊎ (fileRefusal f ≢ 0) → (fileRefusal f ≡ 0) × (n ≡ fileSize f) × (m ≡ fileCount f)
+      go (inl z) = let t : file.Served (fileSize f) (fileCount f) ≡ file.Served n m = rw z at e in (z, cc, cc)
+      go (inr z) =
+          let t : file.Refused (fileRefusal f) ≡ file.Served n m = rw (ne-eqb (fileRefusal f) 0 z) at e in
+          absurd (either (sym t))
+
+-- ---- its reports are all read
+
+-- an answer is a report that no condition meets
+abbrev pub IsRead : ℕ → ReportAnswer → Type 0
+IsRead n a = (r : Report) × (a ≡ Read r) × (firstMet (reportConditions n r) ≡ 0)
+
+number-read : (n c v : ℕ) → reportRefusal n c v ≡ 0 → IsRead n (reportAnswer n c v)
+unfolding reportRefusal
+number-read n c v e = go (read-or-refused n c v)
+  where
+    go : ReadOrRefused n (reportAnswer n c v) → IsRead n (reportAnswer n c v)
+    go (inl t) = t
+    go (inr t) = absurd (t .2 (rw (reportRefusal, t .1) at e))
+
+-- the i-th report of two stretches whose reports are not refused
+all-read : (n : ℕ) (cs ws : List ℕ) → reportsRefusal n cs ws ≡ 0 → (i : ℕ) → i < length cs → i < length ws
+    → IsRead n (reportAnswer n (getD cs i 0) (getD ws i 0))
+unfolding reportsRefusal
+all-read n [] ws e i p q = absurd (omega arith)
+all-read n (c ∷ cs) [] e i p q = absurd (omega arith)
+all-read n (c ∷ cs) (w ∷ ws) e zero p q = number-read n c w (or-else (reportRefusal n c w) (reportsRefusal n cs ws) e .0)
+all-read n (c ∷ cs) (w ∷ ws) e (suc i) p q =
+    all-read n cs ws (or-else (reportRefusal n c w) (reportsRefusal n cs ws) e .1) i (omega arith) (omega arith)
+
+module _ (f : List ℕ) (served : fileRefusal f ≡ 0) where
+  pub is-read : (i : ℕ) → i < fileCount f → IsRead (fileSize f) (reportAt (fileSize f) (fileCodes f) (fileWords f) i)
+  unfolding reportAt
+  is-read i h =
+      let s = file-served f served in
+      let c : length (fileCodes f) ≡ fileCount f = omega (arith, s .whole, length-take (fileCount f) (drop 3 f), length-drop 3 f) in
+      let w : length (fileWords f) ≡ fileCount f = omega (arith, s .whole, length-drop (3 + fileCount f) f) in
+      rw (lt-ltb i (length (fileCodes f)) (omega arith), lt-ltb i (length (fileWords f)) (omega arith))
+      (all-read (fileSize f) (fileCodes f) (fileWords f) (s .reports) i (omega arith) (omega arith))
+
+  -- ---- its ring states
+
+  -- the ring of the next line, told the next report
+  pub ring-next : (i : ℕ) (r : Report) → reportAt (fileSize f) (fileCodes f) (fileWords f) i ≡ Read r
+      → runRing f (suc i) ≡ told (withPlan (runRing f i)) r
+  unfolding runRing toldAnswer
+  ring-next i r e = rw e
+
+  -- the ring keeps its size, and its state behind each line is good
+  pub ring-good : (i : ℕ) → i ≤ fileCount f → (runRing f i .n ≡ fileSize f) × (badRecord (withPlan (runRing f i)) ≡ false)
+  unfolding runRing blankRing told withPlan
+  ring-good zero h = let s = file-served f served in (refl, start-good (fileSize f) (s .big) (s .small))
+  ring-good (suc i) h = go (ring-good i (omega arith)) (is-read i (omega arith))
+    where
+      go : (runRing f i .n ≡ fileSize f) × (badRecord (withPlan (runRing f i)) ≡ false)
+          → IsRead (fileSize f) (reportAt (fileSize f) (fileCodes f) (fileWords f) i)
+          → (runRing f (suc i) .n ≡ fileSize f) × (badRecord (withPlan (runRing f (suc i))) ≡ false)
+      go (size, good) (r, is, checked) =
+          rw (ring-next i r is) (size, next-good (withPlan (runRing f i)) good r (rw size checked))
+
+  -- the answer to report i as the code asks for it: of the ring's size, and of the two stretches of a file that has m reports
+  module _ {i m : ℕ} {ring : Ring} {a : ReportAnswer} (few : i < fileCount f) (count : m ≡ (length f - 3) / 2)
+      (state : ring ≡ withPlan (runRing f i))
+      (answer : a ≡ reportAt (ring .n) (take (3 + m - 3) (drop 3 f)) (take (length f - (3 + m)) (drop (3 + m) f)) i) where
+    report-is : (a ≡ reportAt (fileSize f) (fileCodes f) (fileWords f) i) × (ring .n ≡ fileSize f) × (badRecord ring ≡ false)
+    unfolding withPlan
+    report-is =
+        let good = ring-good i (omega arith) in
+        let z : m ≡ fileCount f = omega (arith, file-served f served .whole) in
+        let size : ring .n ≡ fileSize f = rw state (good .0) in
+        let y : 3 + fileCount f - 3 ≡ fileCount f = omega arith in
+        let all : take (length f - (3 + fileCount f)) (fileWords f) ≡ fileWords f =
+        take-all (length f - (3 + fileCount f)) (fileWords f) (omega (arith, length-drop (3 + fileCount f) f))
+        in
+        (answer ∙ rw (size, z, y, all), size, rw state (good .1))
+
+    -- it is read, and the next ring is told it
+    pub report-next : (r : Report) → a ≡ Read r
+        → (badRecord ring ≡ false) × (firstMet (reportConditions (ring .n) r) ≡ 0) × (runRing f (i + 1) ≡ told ring r)
+    report-next r e =
+        let t = report-is in
+        let (q, is, checked) = is-read i few in
+        let y : Read q ≡ Read r = sym is ∙ sym (t .0) ∙ e in
+        let z : q ≡ r = cc in
+        (t .2, rw (t .1, ← z) checked, rw (add-one, ring-next i q is, state, z))
+
+    pub report-sure : {b : ReportAnswer} → a ≡ b → ((r : Report) → Read r ≢ b) → ⊥
+    report-sure e ne = let (q, is, checked) = is-read i few in ne q (sym is ∙ sym (report-is .0) ∙ e)
+
+  -- ---- its lines
+
+  pub lines-length : length (runLines f) ≡ fileCount f + 2
+  unfolding runLines servedLines
+  lines-length =
+      rw served
+      (omega (arith, length-map (below (suc (fileCount f))) (λ i. transitionLine i (runRing f i)), below-length (suc (fileCount f))))
+
+  pub header-at : getD (runLines f) 0 [] ≡ header (fileSize f) (fileCount f)
+  unfolding runLines servedLines
+  header-at = rw served
+
+  pub line-at : (i : ℕ) → i ≤ fileCount f → getD (runLines f) (suc i) [] ≡ transitionLine i (runRing f i)
+  unfolding runLines servedLines
+  line-at i h = rw served (map-below-at (λ j. transitionLine j (runRing f j)) (suc (fileCount f)) i [] (omega arith))
+
+-- a file that is refused has one line
+pub refused-line : (f : List ℕ) → fileRefusal f ≢ 0 → runLines f ≡ refusedLines (fileRefusal f)
+unfolding runLines
+refused-line f e = rw (ne-eqb (fileRefusal f) 0 e)
+
+-- behind the first line only the run of a served file goes on
+pub goes-on : (f : List ℕ) (k : ℕ) → 0 < k → k < length (runLines f) → fileRefusal f ≡ 0
+unfolding refusedLines
+goes-on f k p h = go (dec-eq (fileRefusal f) 0)
+  where
+    go : (fileRefusal f ≡ 0) ⊎ (fileRefusal f ≢ 0) → fileRefusal f ≡ 0
+    go (inl e) = e
+    go (inr e) = absurd (omega (arith, ap length (refused-line f e)))
+
+-- a cursor of the run of a file
+module _ {f : List ℕ} {c : RunCursor} (w : Within f c) where
+  state-is : c .ring ≡ stateAt f (c .place)
+  unfolding cursorAt
+  state-is = ap (λ (x : RunCursor). x .ring) (w .cursor)
+
+  pub first-state : c .place ≡ 0 → c .ring ≡ stateAt f 0
+  first-state e = state-is ∙ ap (stateAt f) e
+
+  pub behind-first : c .place ≢ 0 → (fileRefusal f ≡ 0) × (c .place ≤ fileCount f + 1)
+  behind-first ne =
+      let served = goes-on f (c .place) (omega (arith, ne)) (w .more) in
+      (served, omega (arith, w .more, lines-length f served))
+
+  pub report-state : (i : ℕ) → c .place ≡ i + 2 → c .ring ≡ withPlan (runRing f i)
+  unfolding stateAt
+  report-state i e = state-is ∙ ap (stateAt f) (e ∙ add-two i)
+
+-- no line is empty
+line-some : (i : ℕ) (ring : Ring) → 0 < length (transitionLine i ring)
+unfolding transitionLine line ascii
+line-some i ring = simp length-append (omega arith)
+
+header-some : (n m : ℕ) → 0 < length (header n m)
+unfolding header ascii
+header-some n m = omega arith
+
+refused-some : (k : ℕ) → 0 < length (refusedText k)
+unfolding refusedText ascii
+refused-some k = omega arith
+
+-- ---- the line at a place
+
+module _ {f before after : List ℕ} {ring : Ring} {size : ℕ} {p : RunPiece} where
+  -- at the first the refusal ..
+  pub passed-refused : (k : ℕ) → fileAnswer f ≡ file.Refused k → ring ≡ stateAt f 0 → Stored (refusedText k) before after size
+      → p ≡ record { cursor = record { place = 1; ring = ring }; length = size; more = false } → Passed f 0 before after p
+  unfolding cursorAt stateAt refusedLines
+  passed-refused k a e s is =
+      let t = answer-refused f k a in
+      let l : runLines f ≡ refusedText k ∷ [] = rw (t .1) (refused-line f (t .0)) in
+      rw is (record { cursor = rw e; stored = rw l s; some = omega (arith, s .sized, refused-some k); more = rw l })
+
+  -- .. or the header
+  pub passed-header : (n m : ℕ) → fileAnswer f ≡ file.Served n m → ring ≡ stateAt f 0 → Stored (header n m) before after size
+      → p ≡ record { cursor = record { place = 1; ring = ring }; length = size; more = true } → Passed f 0 before after p
+  unfolding cursorAt stateAt
+  passed-header n m a e s is =
+      let t = answer-served f n m a in
+      rw is (record {
+        cursor = rw e;
+        stored = rw (header-at f (t .0), ← t .1, ← t .2) s;
+        some = omega (arith, s .sized, header-some n m);
+        more = sym (lt-ltb 1 (length (runLines f)) (omega (arith, lines-length f (t .0))));
+      })
+
+  -- behind it line i, of the ring that was told i reports
+  pub passed-line : (i k next lines : ℕ) → fileRefusal f ≡ 0 → i ≤ fileCount f → Shown i (runRing f i) before after ring size
+      → p ≡ record { cursor = record { place = next; ring = ring }; length = size; more = ltb (k + 1) lines }
+      → k ≡ i + 1 → next ≡ k + 1 → lines ≡ fileCount f + 2 → Passed f k before after p
+  unfolding cursorAt stateAt
+  passed-line i k next lines served h s is e a l =
+      rw (is, a, add-one, e, add-one) (record {
+        cursor = rw (s .state);
+        stored = rw (line-at f served i h) (s .stored);
+        some = omega (arith, s .stored .sized, line-some i (runRing f i));
+        more = rw (l, lines-length f served);
+      })
+
+-- ---- the beginning
+
+-- every run has a line
+pub lines-some : (f : List ℕ) → 0 < length (runLines f)
+unfolding runLines servedLines refusedLines
+lines-some f = go (eqb (fileRefusal f) 0)
+  where
+    go : (t : Bool) → 0 < length (cond t (servedLines f) (refusedLines (fileRefusal f)))
+    go true = omega arith
+    go false = omega arith
+
+pub at-beginning : {ring : Ring} → ring ≡ blankRing 0
+    → let c : RunCursor = record { place = 0; ring = ring } in
+    (c ≡ record { place = 0; ring = blankRing 0 }) × ((f : List ℕ) → Within f c × (runLeft f (c .place) ≡ printedRun f))
+unfolding cursorAt stateAt runLeft printedRun
+at-beginning e = (rw e, λ f. (record { cursor = rw e; more = lines-some f }, refl))

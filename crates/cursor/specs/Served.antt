@@ -1,0 +1,153 @@
+-- A served start or step, from its answer and its sheet's bytes to its line. A ring is one that was told its reports.
+use mathlib.Core.Path.{_≡_, refl}
+use mathlib.Core.Bool.{false}
+use mathlib.Core.Logic.{inl, inr}
+use mathlib.Core.List.{List}
+use mathlib.Core.Option.{Option, none, some}
+use Prim.Native.Nat.{ℕ, _+_, _*_, _≤_}
+use native.Mathlib.Omega.{arith}
+use lib.ListN.{length, replicate, length-replicate}
+use borrow.Author.Tests.{le-ltb}
+use Rattle.model.specs.declared.Part.{Part}
+use Rattle.model.specs.declared.Report.{Report}
+use Rattle.model.specs.declared.Ring.{Ring}
+use Rattle.model.specs.declared.RingAnswer.{RingAnswer}
+use Rattle.model.specs.declared.Choice.the-variants.{Dark}
+use Rattle.model.specs.Plant.{PartHealth, smallest, largest}
+use Rattle.model.specs.Priority.{Path}
+use Rattle.model.specs.Choosing.{choices, choiceOf, chosen, plan}
+use Rattle.model.specs.Sheet.{opening, closing, sheet, written}
+use Rattle.model.specs.Reports.{healthOf, commandsOf, blankRing, told, planned, withPlan}
+use Rattle.model.specs.Refusals.{firstMet, tooShort, badRecord, nextSheet, reportConditions, startRefusal, stepRefusal}
+use Rattle.model.specs.Answers.{Reply, servedAnswer, servedReply, startReply, stepReply}
+use Rattle.model.specs.Text.{transitionLine}
+use Rattle.model.specs.Laws.Sheet.{sheet-fits, sheetOf-length}
+use Rattle.model.specs.Laws.Refusals.{inside, good-size}
+use Rattle.model.specs.Laws.Choosing.{choices-at, choice-source}
+use Rattle.theory.specs.Proofs.Choosing.{chosen-ends}
+use Rattle.demands.specs.Proofs.Operations.{opening-at, closing-at}
+use Rattle.demands.specs.Statements.Records.{started}
+use Rattle.demands.specs.Theorems.Records.{step-good, made-good}
+use Rattle.text.specs.Buses.{AllNamed, Named}
+use Rattle.lines.specs.SheetLine.{SheetBytes, sheetLine, sheet-is, sheet-line}
+use Rattle.cursor.specs.Lines.{Shown}
+
+-- ---- the answer and the sheet of a transition
+
+-- a choice names a generator of the ring
+choices-named : (n : ℕ) (H : PartHealth) → n ≤ largest → AllNamed n (choices n H)
+unfolding choiceOf plan
+choices-named n H small b hb = rw (choices-at n H b (record { choice = Dark }) hb small) (go (plan n H b) refl)
+  where
+    go : (o : Option Path) → plan n H b ≡ o → Named (choiceOf n o)
+    go none e = inl refl
+    go (some w) e = inr (rw (choice-source n w) (omega arith, omega (arith, chosen-ends n H (chosen n H b) b w hb e .0 .source)))
+
+-- what the answer of a served call gives, and the bytes that it leaves: the choices, the sheet, and the line that is made of them
+pub record Given (ring : Ring) (a : RingAnswer) (after : List ℕ) : Type 0 where
+  pub named : AllNamed (ring .n) (a .choices)
+  pub sheet : SheetBytes after
+  pub shown : (i : ℕ) (before out : List ℕ) (size : ℕ)
+      → out ≡ written (sheetLine i (ring .n) (a .choices) after) before
+      → size ≡ length (sheetLine i (ring .n) (a .choices) after)
+      → Shown i ring before out (a .ring) size
+
+module _ (ring : Ring) (small : ring .n ≤ largest) (buffer : List ℕ) where
+  abbrev xs : List Part
+  xs = opening (ring .n) (commandsOf (ring .commands)) (planned ring)
+
+  abbrev ys : List Part
+  ys = closing (ring .n) (commandsOf (ring .commands)) (planned ring)
+
+  few : length xs + length ys ≤ 3 * largest
+  unfolding sheet
+  few = omega (arith, sheetOf-length xs ys, sheet-fits (ring .n) (commandsOf (ring .commands)) (planned ring) small)
+
+  transition-sheet : SheetBytes (written (nextSheet ring) buffer)
+  unfolding nextSheet sheet
+  transition-sheet = sheet-is xs ys buffer few
+
+  transition-line : (i : ℕ)
+      → sheetLine i (ring .n) (choices (ring .n) (healthOf (ring .health))) (written (nextSheet ring) buffer) ≡ transitionLine i ring
+  unfolding nextSheet sheet transitionLine
+  transition-line i =
+      sheet-line xs ys buffer i (ring .n) (choices (ring .n) (healthOf (ring .health))) small
+      (λ p m. opening-at (ring .n) (commandsOf (ring .commands)) (planned ring) p m .0)
+      (λ p m. closing-at (ring .n) (commandsOf (ring .commands)) (planned ring) p m .0)
+
+  -- a call whose reply is served gives it
+  served-given : {reply : Reply} → reply ≡ servedReply ring buffer
+      → (a : RingAnswer) (after : List ℕ) → a ≡ reply .answer → after ≡ reply .buffer → Given ring a after
+  unfolding servedReply servedAnswer
+  served-given is a after answered left =
+      record {
+        named = rw (given .0) (choices-named (ring .n) (healthOf (ring .health)) small);
+        sheet = rw (given .1) transition-sheet;
+        shown = shown;
+      }
+    where
+      given : (a ≡ servedReply ring buffer .answer) × (after ≡ servedReply ring buffer .buffer)
+      given = (rw is at answered, rw is at left)
+
+      shown : (i : ℕ) (before out : List ℕ) (size : ℕ)
+          → out ≡ written (sheetLine i (ring .n) (a .choices) after) before
+          → size ≡ length (sheetLine i (ring .n) (a .choices) after)
+          → Shown i ring before out (a .ring) size
+      shown i before out size e f =
+          let t : sheetLine i (ring .n) (a .choices) after ≡ transitionLine i ring = rw (given .0, given .1) (transition-line i) in
+          record { state = rw (given .0); stored = record { bytes = rw t at e; sized = rw t at f } }
+
+-- ---- with a buffer of 122 bytes every start of a ring's size is served, and every step whose report is not refused
+
+room-enough : (ring : Ring) → ring .n ≤ largest → (buffer : List ℕ) → 122 ≤ length buffer
+    → tooShort (length buffer) (nextSheet ring) ≡ false
+unfolding tooShort nextSheet
+room-enough ring small buffer enough =
+    le-ltb (length buffer) _ (omega (arith, sheet-fits (ring .n) (commandsOf (ring .commands)) (planned ring) small))
+
+start-serves : (n : ℕ) → smallest ≤ n → n ≤ largest → (buffer : List ℕ) → 122 ≤ length buffer
+    → startReply n buffer ≡ servedReply (blankRing n) buffer
+unfolding startReply startRefusal firstMet blankRing
+start-serves n big small buffer enough = rw (inside n big small, room-enough (blankRing n) small buffer enough)
+
+step-serves : (ring : Ring) → badRecord ring ≡ false → (r : Report) → firstMet (reportConditions (ring .n) r) ≡ 0
+    → (buffer : List ℕ) → 122 ≤ length buffer → stepReply ring r buffer ≡ servedReply (told ring r) buffer
+unfolding stepReply stepRefusal firstMet reportConditions told
+step-serves ring good r checked buffer enough =
+    let passes : stepRefusal ring r (length buffer) ≡ 0 =
+    rw (good, room-enough (told ring r) (good-size ring good .1) buffer enough) checked
+    in rw passes
+
+module _ (n : ℕ) (big : smallest ≤ n) (small : n ≤ largest) (buffer : List ℕ) (enough : 122 ≤ length buffer) where
+  pub start-given : (a : RingAnswer) (after : List ℕ) → a ≡ startReply n buffer .answer → after ≡ startReply n buffer .buffer
+      → Given (blankRing n) a after
+  unfolding blankRing
+  start-given = served-given (blankRing n) small buffer (start-serves n big small buffer enough)
+
+module _ (ring : Ring) (good : badRecord ring ≡ false) (r : Report) (checked : firstMet (reportConditions (ring .n) r) ≡ 0) where
+  pub step-given : (buffer : List ℕ) → 122 ≤ length buffer → (a : RingAnswer) (after : List ℕ)
+      → a ≡ stepReply ring r buffer .answer → after ≡ stepReply ring r buffer .buffer → Given (told ring r) a after
+  unfolding told
+  step-given buffer enough = served-given (told ring r) (good-size ring good .1) buffer (step-serves ring good r checked buffer enough)
+
+-- ---- the ring states are good
+
+-- a buffer of 122 bytes
+sheetBuffer : List ℕ
+sheetBuffer = replicate 122 0
+
+sheet-buffer : 122 ≤ length sheetBuffer
+unfolding sheetBuffer
+sheet-buffer = omega (arith, length-replicate {A = ℕ} 122 0)
+
+pub start-good : (n : ℕ) → smallest ≤ n → n ≤ largest → badRecord (withPlan (blankRing n)) ≡ false
+unfolding servedReply servedAnswer
+start-good n big small =
+    let e = start-serves n big small sheetBuffer sheet-buffer in
+    rw e at (made-good (started n sheetBuffer big small (rw e)))
+
+pub next-good : (ring : Ring) → badRecord ring ≡ false → (r : Report) → firstMet (reportConditions (ring .n) r) ≡ 0
+    → badRecord (withPlan (told ring r)) ≡ false
+unfolding servedReply servedAnswer
+next-good ring good r checked =
+    rw (step-serves ring good r checked sheetBuffer sheet-buffer) at (step-good ring good r sheetBuffer)

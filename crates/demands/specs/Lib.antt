@@ -1,0 +1,4 @@
+pub mod Statements
+pub mod Theorems
+pub mod Proofs
+pub mod Refuting

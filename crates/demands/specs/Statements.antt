@@ -1,0 +1,4 @@
+-- What is claimed of a controller: the demands, and the records that are made. Nothing is proved here.
+pub mod Demand3
+pub mod Demand2
+pub mod Records

@@ -1,0 +1,336 @@
+-- The user's third demand as ONE statement about a controller, a served start and any list of calls after it.
+-- It knows nothing of how a controller comes to its answers. The plant is fed n, the words of served reports, whether each
+-- call was served, and the bytes of the lent buffers after served calls; never a record.
+-- Document 01, "The plant beside the list". A stroke is an operation here, a halt an interruption, a wave a phase.
+use mathlib.Core.Path.{_≡_}
+use mathlib.Core.Bool.{Bool, true, false, not, _&&_, cond}
+use mathlib.Core.Logic.{_≢_}
+use mathlib.Core.List.{List, [], _∷_, _++_, map, List·Permᴰ}
+use mathlib.Core.Option.{Option, none, some}
+use Prim.Native.Nat.{ℕ, zero, suc, _+_, _*_, _≤_, _<_}
+use lib.Dec.{leb}
+use lib.ListN.{length, getD, take, drop}
+use Rattle.model.specs.declared.Part.{Part}
+use Rattle.model.specs.declared.Part.the-variants.{Generator, GeneratorBreaker, BusBreaker}
+use Rattle.model.specs.declared.Word.{Word}
+use Rattle.model.specs.declared.Word.the-variants.{Fit, StuckOff, StuckOpen, StuckClosed}
+use Rattle.model.specs.declared.Report.{Report}
+use Rattle.model.specs.declared.Ring.{Ring}
+use Rattle.model.specs.declared.Choice.{Choice}
+use Rattle.model.specs.declared.Choice.the-variants as choice
+use Rattle.model.specs.declared.BusChoice.{BusChoice}
+use Rattle.model.specs.declared.Outcome.{Outcome}
+use Rattle.model.specs.declared.Outcome.the-variants as outcome
+use Rattle.model.specs.declared.Feed.the-variants as feed
+use Rattle.model.specs.Lists.{anyOf}
+use Rattle.model.specs.Values.{number, samePart, choiceSource}
+use Rattle.model.specs.Plant.{PartHealth, PartCommands, smallest, largest, busFeed, InRing, Reaches}
+use Rattle.model.specs.Choosing.{commands, choices}
+use Rattle.model.specs.Sheet.{opening, closing, sheet}
+use Rattle.model.specs.Reports.{partNamed, healthOf, commandsOf, blankRing}
+use Rattle.model.specs.Answers.{Reply, allDark}
+
+-- a controller: what it gives at a start, and at a step with the record handed in
+pub record Controller : Type 0 where
+  pub start : ℕ → List ℕ → Reply
+  pub step : Ring → Report → List ℕ → Reply
+
+-- ---- the plant
+
+-- "It holds the health and the last order of each part of the ring"
+pub record PlantState : Type 0 where
+  pub health : PartHealth
+  pub last : PartCommands
+
+-- "at first all fit and off or open"
+abbrev pub freshPlant : PlantState
+freshPlant = record { health = λ p. 0; last = λ p. false }
+
+-- the health that a word brings about: said here anew, as `wordRefusal` is below, so that the plant does not take its rules from
+-- what the controller is proved to follow; that they agree is proved
+abbrev pub effect : Word → ℕ
+effect Fit = 0
+effect StuckOff = 1
+effect StuckOpen = 2
+effect StuckClosed = 3
+
+-- "A served step first does to its part what the word says."
+unfoldable pub afterWord : Report → PlantState → PlantState
+afterWord r P = record { health = λ p. cond (samePart p (r .part)) (effect (r .word)) (P .health p); last = P .last }
+
+-- the words of a call, one after the other
+unfoldable pub afterWords : List Report → PlantState → PlantState
+afterWords [] P = P
+afterWords (r ∷ rs) P = afterWords rs (afterWord r P)
+
+-- one stroke
+pub record Operation : Type 0 where
+  pub part : Part
+  pub command : Bool
+
+-- "A stroke sets its part's last order, stuck or not."
+unfoldable pub perform : Operation → PlantState → PlantState
+perform o P = record { health = P .health; last = λ p. cond (samePart p (o .part)) (o .command) (P .last p) }
+
+-- operations performed one after the other
+unfoldable pub performAll : List Operation → PlantState → PlantState
+performAll [] P = P
+performAll (o ∷ os) P = performAll os (perform o P)
+
+-- ---- the sheet, read from the bytes of the buffer
+
+-- both waves
+pub record Phases : Type 0 where
+  pub first : List Operation
+  pub second : List Operation
+
+-- "the orders (0 off or open, 1 on or closed)"
+unfoldable pub commandNamed : ℕ → Option Bool
+commandNamed zero = some false
+commandNamed (suc zero) = some true
+commandNamed (suc (suc b)) = none
+
+-- an operation before others, where its code and its command are ones
+unfoldable pub withOperation : Option Part → Option Bool → Option (List Operation) → Option (List Operation)
+withOperation none c os = none
+withOperation (some p) none os = none
+withOperation (some p) (some c) none = none
+withOperation (some p) (some c) (some os) = some (record { part = p; command = c } ∷ os)
+
+-- "two parallel arrays: the part codes of both waves, then the orders"; none where a code names no part of the ring or a
+-- byte is no order
+unfoldable pub operations : ℕ → List ℕ → List ℕ → Option (List Operation)
+operations n [] bs = some []
+operations n (c ∷ cs) [] = none
+operations n (c ∷ cs) (b ∷ bs) = withOperation (partNamed n c) (commandNamed b) (operations n cs bs)
+
+-- the first k operations are the first wave, the others the second
+unfoldable pub phasesAt : ℕ → Option (List Operation) → Option Phases
+phasesAt k none = none
+phasesAt k (some os) = some (record { first = take k os; second = drop k os })
+
+-- "its sizes first (one byte each: first wave, second wave)": how many operations the sheet at the front of a buffer has
+abbrev pub operationCount : List ℕ → ℕ
+operationCount bytes = getD bytes 0 0 + getD bytes 1 0
+
+-- "With k orders it is 2 + 2k bytes"
+abbrev pub sheetLength : List ℕ → ℕ
+sheetLength bytes = 2 + 2 * operationCount bytes
+
+-- the sheet at the front of a buffer; none where the buffer has fewer bytes
+unfoldable pub decode : ℕ → List ℕ → Option Phases
+decode n bytes =
+    let k = operationCount bytes in
+    cond (leb (sheetLength bytes) (length bytes))
+    (phasesAt (getD bytes 0 0) (operations n (take k (drop 2 bytes)) (take k (drop (2 + k) bytes)))) none
+
+-- ---- the list of calls
+
+-- "each with any report and an order buffer of any length"
+pub data Call : Type 0 where
+  step : Report → List ℕ → Call
+
+-- "any number of steps, or none", in the order in which they are made
+pub data Calls : Type 0 where
+  nothing : Calls
+  _then_ : Calls → Call → Calls
+
+infixl 20 _then_
+-- the calls `before` come first among the calls
+pub data Begins (before : Calls) : Calls → Type 0 where
+  whole : Begins before before
+  longer : {calls : Calls} {call : Call} → Begins before calls → Begins before (calls then call)
+
+-- "Each step gets the record that the call before it returned": what the controller gives
+abbrev pub replyTo : Controller → Ring → Call → Reply
+replyTo c ring (step r buffer) = c .step ring r buffer
+
+-- the words that a served call brings
+abbrev pub words : Call → List Report
+words (step r buffer) = r ∷ []
+
+-- the buffer that a call is lent
+abbrev pub lent : Call → List ℕ
+lent (step r buffer) = buffer
+
+-- "whether each call was served", by its outcome
+abbrev pub servedOutcome : Outcome → Bool
+servedOutcome outcome.Served = true
+servedOutcome (outcome.Refused k) = false
+
+-- "whether each call was served"
+abbrev pub isServed : Reply → Bool
+isServed reply = servedOutcome (reply .answer .outcome)
+
+-- the plant, the record last returned, and "the choices of the last served call"
+pub record World : Type 0 where
+  pub plant : PlantState
+  pub ring : Ring
+  pub shown : List BusChoice
+
+-- "in any order": xs are the operations of a phase, each as often as there
+abbrev pub AnyOrder : List Operation → List Operation → Type 0
+AnyOrder xs phase = List·Permᴰ xs phase
+
+-- "First-wave strokes fall in any order, then second-wave strokes in any order, all before the next call."
+pub data Performed (ph : Phases) (P : PlantState) : PlantState → Type 0 where
+  performed : {xs ys : List Operation} → AnyOrder xs (ph .first) → AnyOrder ys (ph .second)
+      → Performed ph P (performAll ys (performAll xs P))
+
+-- what stands when the orders of a start and of the calls after it have ended
+pub data Ended (c : Controller) (n : ℕ) (buffer : List ℕ) : Calls → World → Type 0 where
+  started : {ph : Phases} {Q : PlantState} → isServed (c .start n buffer) ≡ true → decode n (c .start n buffer .buffer) ≡ some ph
+      → Performed ph freshPlant Q
+      → Ended c n buffer nothing (record { plant = Q; ring = c .start n buffer .answer .ring; shown = c .start n buffer .answer .choices })
+  served : {calls : Calls} {W : World} (call : Call) {ph : Phases} {Q : PlantState} → Ended c n buffer calls W
+      → isServed (replyTo c (W .ring) call) ≡ true
+      → decode n (replyTo c (W .ring) call .buffer) ≡ some ph → Performed ph (afterWords (words call) (W .plant)) Q
+      → Ended c n buffer (calls then call)
+      (record { plant = Q; ring = replyTo c (W .ring) call .answer .ring; shown = replyTo c (W .ring) call .answer .choices })
+  -- "A refused call changes nothing"; the record last given is what the call returned
+  refused : {calls : Calls} {W : World} (call : Call) → Ended c n buffer calls W → isServed (replyTo c (W .ring) call) ≡ false
+      → Ended c n buffer (calls then call) (record { plant = W .plant; ring = replyTo c (W .ring) call .answer .ring; shown = W .shown })
+
+-- "A halt may fall before the first stroke, after the last or between any two.": the plant at a moment of a served call, and
+-- the operations of the first phase that are left
+pub data Moment (ph : Phases) (P : PlantState) : List Operation → PlantState → Type 0 where
+  in-first : (done : List Operation) {rest : List Operation} → AnyOrder (done ++ rest) (ph .first) → Moment ph P rest (performAll done P)
+  in-second : (xs done rest : List Operation) → AnyOrder xs (ph .first) → AnyOrder (done ++ rest) (ph .second)
+      → Moment ph P [] (performAll done (performAll xs P))
+
+-- "word 3"
+abbrev pub isStuckClosed : Word → Bool
+isStuckClosed Fit = false
+isStuckClosed StuckOff = false
+isStuckClosed StuckOpen = false
+isStuckClosed StuckClosed = true
+
+-- "empty"
+abbrev pub isEmpty : {A : Type 0} → List A → Bool
+isEmpty [] = true
+isEmpty (x ∷ xs) = false
+
+-- "The time excepted is that of a served word 3, from its change of health until its first wave has fallen; an empty first
+-- wave excepts nothing."
+unfoldable pub excepted : List Report → List Operation → Bool
+excepted rs rest = anyOf (λ r. isStuckClosed (r .word)) rs && not (isEmpty rest)
+
+-- the plant at an interruption anywhere in the list, and whether the moment is excepted
+pub data Interrupted (c : Controller) (n : ℕ) (buffer : List ℕ) (calls : Calls) : PlantState → Bool → Type 0 where
+  in-start : {ph : Phases} {rest : List Operation} {P : PlantState} → isServed (c .start n buffer) ≡ true
+      → decode n (c .start n buffer .buffer) ≡ some ph
+      → Moment ph freshPlant rest P → Interrupted c n buffer calls P (excepted [] rest)
+  between : {before : Calls} {W : World} → Begins before calls → Ended c n buffer before W → Interrupted c n buffer calls (W .plant) false
+  in-call : {before : Calls} {W : World} (call : Call) {ph : Phases} {rest : List Operation} {P : PlantState}
+      → Begins (before then call) calls
+      → Ended c n buffer before W
+      → isServed (replyTo c (W .ring) call) ≡ true → decode n (replyTo c (W .ring) call .buffer) ≡ some ph
+      → Moment ph (afterWords (words call) (W .plant)) rest P → Interrupted c n buffer calls P (excepted (words call) rest)
+
+-- ---- what is claimed
+
+-- the choice shown for bus b
+abbrev pub shownAt : World → ℕ → Choice
+shownAt W b = getD (W .shown) b (record { choice = choice.Dark }) .choice
+
+-- "Whenever a call's orders have ended ..": of one bus
+pub record BusShown (n : ℕ) (W : World) (b : ℕ) : Type 0 where
+  -- "a bus stands shown as dark exactly when no fit generator has a run of breakers to it, none stuck open"
+  pub dark-unreached : shownAt W b ≡ choice.Dark → (g : ℕ) → Reaches n (W .plant .health) b g → ⊥
+  pub unreached-dark : ((g : ℕ) → Reaches n (W .plant .health) b g → ⊥) → shownAt W b ≡ choice.Dark
+  -- "a bus shown lit is fed by the generator named and no other"
+  pub energized : shownAt W b ≢ choice.Dark → busFeed n (W .plant .health) (W .plant .last) b ≡ feed.Fed (choiceSource (shownAt W b))
+  -- "a dark one by none"
+  pub de-energized : shownAt W b ≡ choice.Dark → busFeed n (W .plant .health) (W .plant .last) b ≡ feed.Dark
+
+-- "and the record gives the plant's health and orders"; parts above n are fit and off or open
+pub record RecordGiven (n : ℕ) (W : World) : Type 0 where
+  pub size : W .ring .n ≡ n
+  pub health : (p : Part) → InRing n p → healthOf (W .ring .health) p ≡ W .plant .health p
+  pub standing : (p : Part) → InRing n p → commandsOf (W .ring .commands) p ≡ W .plant .last p
+  pub health-above : (p : Part) → InRing largest p → n < number p → healthOf (W .ring .health) p ≡ 0
+  pub commands-above : (p : Part) → InRing largest p → n < number p → commandsOf (W .ring .commands) p ≡ false
+
+-- the operation of a part: off or open, or on or closed
+abbrev pub operation : Bool → Part → Operation
+operation c p = record { part = p; command = c }
+
+-- "A served call's choices and waves are those of document 01 for the plant's health and orders just before its strokes."
+pub record AsChosen (n : ℕ) (P : PlantState) (reply : Reply) : Type 0 where
+  pub choices-are : reply .answer .choices ≡ choices n (P .health)
+  pub phases : Phases
+  pub decodes : decode n (reply .buffer) ≡ some phases
+  pub first-is : phases .first ≡ map (operation false) (opening n (P .last) (commands n (P .health)))
+  pub second-is : phases .second ≡ map (operation true) (closing n (P .last) (commands n (P .health)))
+
+-- refusals 6 and 7 by part and word, 0 where neither meets them
+unfoldable pub wordRefusal : Part → Word → ℕ
+wordRefusal (Generator k) Fit = 7
+wordRefusal (Generator k) StuckOff = 0
+wordRefusal (Generator k) StuckOpen = 6
+wordRefusal (Generator k) StuckClosed = 6
+wordRefusal (GeneratorBreaker k) Fit = 0
+wordRefusal (GeneratorBreaker k) StuckOff = 6
+wordRefusal (GeneratorBreaker k) StuckOpen = 0
+wordRefusal (GeneratorBreaker k) StuckClosed = 0
+wordRefusal (BusBreaker k) Fit = 0
+wordRefusal (BusBreaker k) StuckOff = 6
+wordRefusal (BusBreaker k) StuckOpen = 0
+wordRefusal (BusBreaker k) StuckClosed = 0
+
+-- how many bytes the sheet for a plant has
+abbrev pub sheetFor : ℕ → PlantState → ℕ
+sheetFor n P = length (sheet n (P .last) (commands n (P .health)))
+
+-- "a start 2, 8": the refusal that meets a start, with a buffer of this length
+pub data StartMeets (n room : ℕ) : ℕ → Type 0 where
+  too-small : n < smallest → StartMeets n room 2
+  too-large : largest < n → StartMeets n room 2
+  too-short : smallest ≤ n → n ≤ largest → room < sheetFor n freshPlant → StartMeets n room 8
+
+-- "A step checks 9, 5, 6, 7, 8": the refusal that meets a call of the list; 9 meets none
+pub data Meets (n : ℕ) (P : PlantState) : Call → ℕ → Type 0 where
+  no-part : {r : Report} {buffer : List ℕ} → (InRing n (r .part) → ⊥) → Meets n P (step r buffer) 5
+  no-word : {r : Report} {buffer : List ℕ} {k : ℕ} → InRing n (r .part) → wordRefusal (r .part) (r .word) ≡ suc k
+      → Meets n P (step r buffer) (suc k)
+  no-room : {r : Report} {buffer : List ℕ} → InRing n (r .part) → wordRefusal (r .part) (r .word) ≡ 0
+      → length buffer < sheetFor n (afterWord r P) → Meets n P (step r buffer) 8
+
+-- what is claimed of every call, by the refusals that meet it, the record that it gives where it is refused, and the buffer lent
+pub record Answered (Met : ℕ → Type 0) (kept : Ring) (buffer : List ℕ) (reply : Reply) : Type 0 where
+  -- "a call is refused exactly when a numbered refusal meets it", with its number
+  pub only : (k : ℕ) → reply .answer .outcome ≡ outcome.Refused k → Met k
+  pub always : (k : ℕ) → Met k → reply .answer .outcome ≡ outcome.Refused k
+  -- "the record as handed in and the buffer untouched", "The choices of a refused start or step .. are all dark"
+  pub record-kept : isServed reply ≡ false → reply .answer .ring ≡ kept
+  pub buffer-kept : isServed reply ≡ false → reply .buffer ≡ buffer
+  pub choices-dark : isServed reply ≡ false → reply .answer .choices ≡ allDark
+  -- "Bytes of the lent buffer behind the sheet keep their values."
+  pub behind-kept : isServed reply ≡ true → drop (sheetLength (reply .buffer)) (reply .buffer) ≡ drop (sheetLength (reply .buffer)) buffer
+  pub length-kept : length (reply .buffer) ≡ length buffer
+
+-- what holds of a list of calls
+pub record Holds (c : Controller) (n : ℕ) (buffer : List ℕ) (calls : Calls) : Type 0 where
+  -- the orders of the whole list end
+  pub ends : (W : World) × Ended c n buffer calls W
+  -- "Whenever a call's orders have ended", after every part of the list
+  pub shown : {before : Calls} {W : World} → Begins before calls → Ended c n buffer before W → (b : ℕ) → b < n → BusShown n W b
+  pub given : {before : Calls} {W : World} → Begins before calls → Ended c n buffer before W → RecordGiven n W
+  -- the start's choices and waves, and each served call's
+  pub start-chosen : AsChosen n freshPlant (c .start n buffer)
+  pub chosen : {before : Calls} {W : World} (call : Call) → Begins (before then call) calls → Ended c n buffer before W
+      → isServed (replyTo c (W .ring) call) ≡ true → AsChosen n (afterWords (words call) (W .plant)) (replyTo c (W .ring) call)
+  -- "no bus is fed by two generators", wherever anyone halts the orders, but for the time excepted
+  pub no-clash : {P : PlantState} → Interrupted c n buffer calls P false → (b g h : ℕ) → b < n
+      → busFeed n (P .health) (P .last) b ≢ feed.Clash g h
+  -- each call is served or refused as it must be
+  pub answered : {before : Calls} {W : World} (call : Call) → Begins (before then call) calls → Ended c n buffer before W
+      → Answered (Meets n (W .plant) call) (W .ring) (lent call) (replyTo c (W .ring) call)
+
+-- "For every ring size and every list of reports after a fresh start, refused ones included, each handed in with the record
+-- last given, this holds of the plant that document 01 sets beside the list."
+pub record Demand3 (c : Controller) : Type 0 where
+  -- the start itself, for every n and every buffer; "A refused start has a record with n = 0 and every part fit and ordered off or open."
+  pub start-answered : (n : ℕ) (buffer : List ℕ) → Answered (StartMeets n (length buffer)) (blankRing 0) buffer (c .start n buffer)
+  -- "a served start .. then any number of steps, or none"
+  pub holds : (n : ℕ) (buffer : List ℕ) → isServed (c .start n buffer) ≡ true → (calls : Calls) → Holds c n buffer calls

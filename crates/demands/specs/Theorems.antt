@@ -1,0 +1,4 @@
+-- What a user cares about: the statements hold.
+pub mod Demand3
+pub mod Demand2
+pub mod Records

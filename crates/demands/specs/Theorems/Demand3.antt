@@ -1,0 +1,432 @@
+-- Demand 3 holds of the controller whose answers are the definitions that the contracts of start and step cite.
+use mathlib.Core.Path.{_≡_, refl, sym, _∙_, ap}
+use mathlib.Core.Bool.{Bool, true, false, cond}
+use mathlib.Core.Logic.{_≢_, _⊎_, inl, inr}
+use mathlib.Core.List.{List, [], _∷_, _++_, map, append-nil, List·Permᴰ}
+use mathlib.Core.Option.{Option, none, some}
+use Prim.Native.Nat.{ℕ, _≤_, _<_}
+use native.Mathlib.Omega.{arith}
+use Rattle.model.specs.declared.Part.{Part}
+use Rattle.model.specs.declared.Part.the-variants.{Generator, GeneratorBreaker, BusBreaker}
+use Rattle.model.specs.declared.Word.{Word}
+use Rattle.model.specs.declared.Word.the-variants.{Fit, StuckOff, StuckOpen, StuckClosed}
+use Rattle.model.specs.declared.Report.{Report}
+use Rattle.model.specs.declared.Choice.the-variants as choice
+use Rattle.model.specs.declared.Outcome.the-variants as outcome
+use Rattle.model.specs.declared.Feed.the-variants as feed
+use Rattle.model.specs.Lists.{anyOf}
+use Rattle.model.specs.Values.{number, samePart, wordNumber, choiceSource}
+use Rattle.model.specs.Plant.{
+  PartHealth,
+  PartCommands,
+  smallest,
+  largest,
+  generatorBreaker,
+  busBreaker,
+  stuckClosed,
+  healthOfKind,
+  busFeed,
+  InRing,
+  Reaches,
+}
+use Rattle.model.specs.Priority.{Path}
+use Rattle.model.specs.Choosing.{commands, choices, choiceOf, plan}
+use Rattle.model.specs.Sheet.{opening, closing}
+use Rattle.model.specs.Reports.{reported, healthOf, told}
+use Rattle.model.specs.Answers.{Reply, refusedAnswer, refusedReply, startReply, stepReply}
+use Rattle.model.specs.Laws.Tests.{contra, dec, or-none}
+use Rattle.model.specs.Laws.Choosing.{choice-source, choice-dark, choices-at}
+use Rattle.model.specs.Laws.Parts.{same-eq, health-places}
+use Rattle.theory.specs.Theorems.Completeness.{de-energized-exactly}
+use Rattle.theory.specs.Theorems.Feeds.{Single, no-clash, energized-fed, de-energized-fed, reaches-usable, usable-reaches}
+use Rattle.theory.specs.Theorems.Interruption.{Fewer, NoneStuckClosed, opening-single, closing-single}
+use Rattle.theory.specs.Theorems.Locality.{feed-ext}
+use Rattle.demands.specs.Statements.Demand3.{
+  Controller,
+  PlantState,
+  freshPlant,
+  effect,
+  afterWord,
+  afterWords,
+  Operation,
+  operation,
+  performAll,
+  Phases,
+  decode,
+  Call,
+  step,
+  Calls,
+  nothing,
+  _then_,
+  replyTo,
+  words,
+  isServed,
+  World,
+  Performed,
+  performed,
+  Ended,
+  started,
+  served,
+  refused,
+  Moment,
+  in-first,
+  in-second,
+  isStuckClosed,
+  isEmpty,
+  excepted,
+  Interrupted,
+  in-start,
+  between,
+  in-call,
+  shownAt,
+  BusShown,
+  RecordGiven,
+  AsChosen,
+  wordRefusal,
+  lent,
+  Meets,
+  Answered,
+  Holds,
+  Demand3,
+}
+use Rattle.demands.specs.Proofs.Operations.{perform-health, any-order, sheet-order}
+use Rattle.demands.specs.Proofs.Steady.{
+  phasesOf,
+  Replied,
+  Steady,
+  fit-of-kind,
+  served-replied,
+  served-decodes,
+  transition-steady,
+  some-of-prefix,
+  first-fewer,
+  first-done,
+  second-fewer,
+}
+use Rattle.demands.specs.Proofs.Answering.{
+  start-served,
+  start-fine,
+  start-answered,
+  start-ready,
+  blank-fit,
+  step-ready,
+  step-answered,
+  served-fine,
+  step-served,
+  step-refused,
+}
+
+-- the controller of the definitions
+abbrev pub controller : Controller
+controller = record { start = startReply; step = stepReply }
+
+-- ---- after every call all is steady
+
+-- a word that is not refused brings about a health of its part's kind
+word-of-kind : (p : Part) (w : Word) → wordRefusal p w ≡ 0 → healthOfKind p (wordNumber w) ≡ true
+unfolding wordRefusal healthOfKind
+word-of-kind (Generator k) Fit e = absurd (omega arith)
+word-of-kind (Generator k) StuckOff e = refl
+word-of-kind (Generator k) StuckOpen e = absurd (omega arith)
+word-of-kind (Generator k) StuckClosed e = absurd (omega arith)
+word-of-kind (GeneratorBreaker k) Fit e = refl
+word-of-kind (GeneratorBreaker k) StuckOff e = absurd (omega arith)
+word-of-kind (GeneratorBreaker k) StuckOpen e = refl
+word-of-kind (GeneratorBreaker k) StuckClosed e = refl
+word-of-kind (BusBreaker k) Fit e = refl
+word-of-kind (BusBreaker k) StuckOff e = absurd (omega arith)
+word-of-kind (BusBreaker k) StuckOpen e = refl
+word-of-kind (BusBreaker k) StuckClosed e = refl
+
+-- the health of a ring after a report that is not refused
+module _ {n : ℕ} {W : World} (small : n ≤ largest) (s : Steady n W) (r : Report) (inside : InRing n (r .part))
+    (word : wordRefusal (r .part) (r .word) ≡ 0) where
+  told-is : (p : Part) → InRing largest p → healthOf (told (W .ring) r .health) p ≡ reported (healthOf (W .ring .health)) r p
+  unfolding told
+  told-is p i = health-places (reported (healthOf (W .ring .health)) r) p i
+
+  told-kinds : (p : Part) → InRing n p → healthOfKind p (healthOf (told (W .ring) r .health) p) ≡ true
+  unfolding reported
+  told-kinds p i = rw (told-is p (i .0, omega (arith, i .1))) (go (dec (samePart p (r .part))))
+    where
+      go : (samePart p (r .part) ≡ true) ⊎ (samePart p (r .part) ≡ false)
+          → healthOfKind p (cond (samePart p (r .part)) (wordNumber (r .word)) (healthOf (W .ring .health) p)) ≡ true
+      go (inl e) = rw (e, same-eq p (r .part) e) (word-of-kind (r .part) (r .word) word)
+      go (inr e) = rw (e, s .health p i) (s .kinds p i)
+
+  told-above : (p : Part) → InRing largest p → n < number p → healthOf (told (W .ring) r .health) p ≡ 0
+  unfolding reported
+  told-above p i l = told-is p i ∙ go (dec (samePart p (r .part)))
+    where
+      go : (samePart p (r .part) ≡ true) ⊎ (samePart p (r .part) ≡ false)
+          → cond (samePart p (r .part)) (wordNumber (r .word)) (healthOf (W .ring .health) p) ≡ 0
+      go (inl e) = absurd (omega (arith, ap number (same-eq p (r .part) e), inside .1))
+      go (inr e) = rw e (s .above p i l .0)
+
+-- what a buffer decodes to is one thing
+same-phases : {o : Option Phases} {x y : Phases} → o ≡ some x → o ≡ some y → x ≡ y
+same-phases {o} {x} {y} p q = cc
+
+module _ (n : ℕ) (buffer : List ℕ) (big : smallest ≤ n) (small : n ≤ largest) where
+  pub start-steady : {ph : Phases} {Q : PlantState} → isServed (startReply n buffer) ≡ true
+      → decode n (startReply n buffer .buffer) ≡ some ph → Performed ph freshPlant Q
+      → Steady n (record { plant = Q; ring = startReply n buffer .answer .ring; shown = startReply n buffer .answer .choices })
+  start-steady {ph} {Q} e d q = rw (start-served n buffer e)
+      (transition-steady small (start-ready n small) (λ p i. rw (blank-fit n p (i .0, omega (arith, i .1))) (fit-of-kind p))
+      (λ p i l. blank-fit n p i) buffer
+      (rw (same-phases (rw (start-served n buffer e) at d) (served-decodes small (start-ready n small) buffer)) at q))
+
+  pub step-steady : {W : World} {ph : Phases} {Q : PlantState} → Steady n W → (r : Report) (lending : List ℕ)
+      → isServed (stepReply (W .ring) r lending) ≡ true
+      → decode n (stepReply (W .ring) r lending .buffer) ≡ some ph → Performed ph (afterWord r (W .plant)) Q
+      → let a = stepReply (W .ring) r lending .answer in
+      Steady n (record { plant = Q; ring = a .ring; shown = a .choices })
+  step-steady {W} {ph} {Q} s r lending e d q =
+      let t = served-fine big small s r lending e in
+      let z = step-served (W .ring) r lending e in
+      rw z
+      (transition-steady small (step-ready small s r) (told-kinds small s r (t .inside) (t .word))
+      (told-above small s r (t .inside) (t .word)) lending
+      (rw (same-phases (rw z at d) (served-decodes small (step-ready small s r) lending)) at q))
+
+  pub ended-steady : {calls : Calls} {W : World} → Ended controller n buffer calls W → Steady n W
+  unfolding afterWords refusedReply refusedAnswer
+  ended-steady (started e d q) = start-steady e d q
+  ended-steady (served (step r lending) h e d q) = step-steady (ended-steady h) r lending e d q
+  ended-steady (refused {W = W} (step r lending) h e) = rw (step-refused (W .ring) r lending e) (ended-steady h)
+
+-- ---- what is shown
+
+module _ {n : ℕ} {W : World} (small : n ≤ largest) (s : Steady n W) (b : ℕ) (hb : b < n) where
+  abbrev K : PartHealth
+  K = W .plant .health
+
+  shown-is : shownAt W b ≡ choiceOf n (plan n K b)
+  shown-is = rw (s .shown) (choices-at n K b (record { choice = choice.Dark }) hb small)
+
+  fed-is : busFeed n K (W .plant .last) b ≡ busFeed n K (commands n K) b
+  fed-is = feed-ext n K K (W .plant .last) (commands n K) (λ p i. refl) (s .planned) b hb
+
+  none-dark : plan n K b ≡ none → choiceOf n (plan n K b) ≡ choice.Dark
+  unfolding choiceOf
+  none-dark e = rw e
+
+  bus-shown : BusShown n W b
+  bus-shown = record {
+    dark-unreached = λ e g c. unreached e g c;
+    unreached-dark = λ f. shown-is ∙ none-dark (de-energized-exactly n K b hb .1 (λ g r hg u. f g (usable-reaches r hg hb u)));
+    energized = λ ne. fed-is ∙ energized (plan n K b) refl ne;
+    de-energized = λ e. fed-is ∙ de-energized-fed n K b hb (choice-dark n (plan n K b) (sym shown-is ∙ e));
+  }
+    where
+      unreached : shownAt W b ≡ choice.Dark → (g : ℕ) → Reaches n K b g → ⊥
+      unreached e g c =
+          let t = reaches-usable hb c in
+          de-energized-exactly n K b hb .0 (choice-dark n (plan n K b) (sym shown-is ∙ e)) g (t .0) (c .inside) (t .1)
+
+      energized : (o : Option Path) → plan n K b ≡ o → shownAt W b ≢ choice.Dark
+          → busFeed n K (commands n K) b ≡ feed.Fed (choiceSource (shownAt W b))
+      energized none e ne = absurd (ne (shown-is ∙ none-dark e))
+      energized (some w) e ne = rw (shown-is, e, choice-source n w) (energized-fed n K b w hb e)
+
+-- the record gives the plant's health and commands
+as-given : {n : ℕ} {W : World} → Steady n W → RecordGiven n W
+as-given s = record {
+  size = s .size;
+  health = s .health;
+  standing = s .standing;
+  health-above = λ p i l. s .above p i l .0;
+  commands-above = λ p i l. s .above p i l .1;
+}
+
+-- a reply that is document 01's has its choices and its phases
+as-chosen : {n : ℕ} {P : PlantState} {reply : Reply} → Replied n P reply → AsChosen n P reply
+unfolding phasesOf
+as-chosen {n} {P} a = record {
+  choices-are = a .chosen;
+  phases = phasesOf n P;
+  decodes = a .decoded;
+  first-is = refl;
+  second-is = refl;
+}
+
+-- ---- interruptions
+
+-- words that stick no breaker closed
+words-last : (rs : List Report) (P : PlantState) → afterWords rs P .last ≡ P .last
+unfolding afterWords afterWord
+words-last [] P = refl
+words-last (r ∷ rs) P = words-last rs (afterWord r P)
+
+not-closed : (w : Word) → isStuckClosed w ≡ false → stuckClosed (effect w) ≡ true → ⊥
+not-closed Fit e c = contra c refl
+not-closed StuckOff e c = contra c refl
+not-closed StuckOpen e c = contra c refl
+not-closed StuckClosed e c = contra refl e
+
+word-none : (r : Report) (P : PlantState) (p : Part) → isStuckClosed (r .word) ≡ false → stuckClosed (afterWord r P .health p) ≡ true
+    → stuckClosed (P .health p) ≡ true
+unfolding afterWord
+word-none r P p e = go (samePart p (r .part))
+  where
+    go : (t : Bool) → stuckClosed (cond t (effect (r .word)) (P .health p)) ≡ true → stuckClosed (P .health p) ≡ true
+    go true c = absurd (not-closed (r .word) e c)
+    go false c = c
+
+words-none : (rs : List Report) (P : PlantState) (p : Part) → anyOf (λ r. isStuckClosed (r .word)) rs ≡ false
+    → stuckClosed (afterWords rs P .health p) ≡ true
+    → stuckClosed (P .health p) ≡ true
+unfolding afterWords anyOf
+words-none [] P p e c = c
+words-none (r ∷ rs) P p e c =
+    let t = or-none (isStuckClosed (r .word)) (anyOf (λ q. isStuckClosed (q .word)) rs) e in
+    word-none r P p (t .0) (words-none rs (afterWord r P) p (t .1) c)
+
+-- a moment that is not excepted: no word has stuck a breaker closed, or the first phase is done
+data Unless (rs : List Report) (rest : List Operation) : Type 0 where
+  no-word-3 : anyOf (λ r. isStuckClosed (r .word)) rs ≡ false → Unless rs rest
+  all-opened : isEmpty rest ≡ true → Unless rs rest
+
+unless : (rs : List Report) (rest : List Operation) → excepted rs rest ≡ false → Unless rs rest
+unfolding excepted
+unless rs rest e = go (dec (anyOf (λ r. isStuckClosed (r .word)) rs)) (dec (isEmpty rest))
+  where
+    go : (anyOf (λ r. isStuckClosed (r .word)) rs ≡ true) ⊎ (anyOf (λ r. isStuckClosed (r .word)) rs ≡ false)
+        → (isEmpty rest ≡ true) ⊎ (isEmpty rest ≡ false)
+        → Unless rs rest
+    go (inr p) q = no-word-3 p
+    go (inl p) (inl q) = all-opened q
+    go (inl p) (inr q) = contra (rw (p, q)) e
+
+empty-is : {A : Type 0} (l : List A) → isEmpty l ≡ true → l ≡ []
+empty-is [] e = refl
+empty-is (x ∷ xs) e = contra e refl
+
+-- the plant P₀ before a call, with no more than its plan's commands; P after the call's words
+module _ (n : ℕ) (P₀ : PlantState) (rs : List Report) (stands : Fewer n (P₀ .last) (commands n (P₀ .health))) where
+  abbrev P : PlantState
+  P = afterWords rs P₀
+
+  abbrev N : PartCommands
+  N = commands n (P .health)
+
+  -- some operations of the first phase are performed
+  in-first-single : (done rest : List Operation) → List·Permᴰ (done ++ rest) (map (operation false) (opening n (P .last) N))
+      → Unless rs rest
+      → (b : ℕ) → b < n → Single n (performAll done P .health) (performAll done P .last) b
+  in-first-single done rest d (no-word-3 e) b hb =
+      rw (perform-health done P)
+      (opening-single n (P₀ .health) (P .health) (performAll done P .last) none-closed
+      (λ p i c. stands p i (rw words-last at (first-fewer n P N done (some-of-prefix false (opening n (P .last) N) done rest d) p i c)))
+      b hb)
+    where
+      none-closed : NoneStuckClosed n (P₀ .health) (P .health)
+      none-closed = record {
+        breaker = λ g hg c. words-none rs P₀ (generatorBreaker g) e c;
+        line = λ i hi c. words-none rs P₀ (busBreaker i) e c;
+      }
+  in-first-single done rest d (all-opened e) b hb =
+      rw (perform-health done P)
+      (closing-single n (P .health) (performAll done P .last) (first-done n P N done (rw (empty-is rest e, append-nil) at d)) b hb)
+
+  -- all of the first, and some of the second
+  in-second-single : (xs done rest : List Operation) → List·Permᴰ xs (map (operation false) (opening n (P .last) N))
+      → List·Permᴰ (done ++ rest) (map (operation true) (closing n (P .last) N))
+      → (b : ℕ) → b < n → Single n (performAll done (performAll xs P) .health) (performAll done (performAll xs P) .last) b
+  in-second-single xs done rest dx dy b hb =
+      rw (perform-health done (performAll xs P) ∙ perform-health xs P)
+      (closing-single n (P .health) (performAll done (performAll xs P) .last)
+      (second-fewer n P N (performAll xs P) done (first-done n P N xs dx) (some-of-prefix true (closing n (P .last) N) done rest dy)) b hb)
+
+  moment-single : {rest : List Operation} {Q : PlantState} → Moment (phasesOf n P) P rest Q → Unless rs rest → (b : ℕ) → b < n
+      → Single n (Q .health) (Q .last) b
+  unfolding phasesOf
+  moment-single (in-first done {rest = rest} d) u b hb = in-first-single done rest (any-order d) u b hb
+  moment-single (in-second xs done rest dx dy) u b hb = in-second-single xs done rest (any-order dx) (any-order dy) b hb
+
+-- ---- demand 3
+
+module _ (n : ℕ) (buffer : List ℕ) (begun : isServed (startReply n buffer) ≡ true) where
+  big : smallest ≤ n
+  big = start-fine n buffer begun .big
+
+  small : n ≤ largest
+  small = start-fine n buffer begun .small
+
+  pub start-replied : Replied n freshPlant (startReply n buffer)
+  start-replied = rw (start-served n buffer begun) (served-replied small (start-ready n small) buffer)
+
+  step-replied : {W : World} → Steady n W → (r : Report) (lending : List ℕ) → isServed (stepReply (W .ring) r lending) ≡ true
+      → Replied n (afterWord r (W .plant)) (stepReply (W .ring) r lending)
+  step-replied {W} s r lending e = rw (step-served (W .ring) r lending e) (served-replied small (step-ready small s r) lending)
+
+  steady : {calls : Calls} {W : World} → Ended controller n buffer calls W → Steady n W
+  steady h = ended-steady n buffer big small h
+
+  ends : (calls : Calls) → (W : World) × Ended controller n buffer calls W
+  unfolding afterWords
+  ends nothing = (_, started begun (start-replied .decoded) (performed (sheet-order _) (sheet-order _)))
+  ends (calls then step r lending) = go (ends calls)
+    where
+      go : (W : World) × Ended controller n buffer calls W → (W : World) × Ended controller n buffer (calls then step r lending) W
+      go t = by (dec (isServed (stepReply (t .0 .ring) r lending)))
+        where
+          by : (isServed (stepReply (t .0 .ring) r lending) ≡ true) ⊎ (isServed (stepReply (t .0 .ring) r lending) ≡ false)
+              → (W : World) × Ended controller n buffer (calls then step r lending) W
+          by (inl e) =
+              let read = step-replied (steady (t .1)) r lending e .decoded in
+              (_, served (step r lending) (t .1) e read (performed (sheet-order _) (sheet-order _)))
+          by (inr e) = (_, refused (step r lending) (t .1) e)
+
+  -- what stands between calls is planned
+  as-planned : {calls : Calls} {W : World} → Ended controller n buffer calls W → Fewer n (W .plant .last) (commands n (W .plant .health))
+  as-planned h p i c = sym (steady h .planned p i) ∙ c
+
+  -- a moment of a call that was told the words rs, in a plant P₀ that was as planned
+  call-free : (P₀ : PlantState) {P : PlantState} (rs : List Report) (reply : Reply) {ph : Phases} {rest : List Operation}
+      → Fewer n (P₀ .last) (commands n (P₀ .health))
+      → Replied n (afterWords rs P₀) reply → decode n (reply .buffer) ≡ some ph → Moment ph (afterWords rs P₀) rest P
+      → excepted rs rest ≡ false
+      → (b : ℕ) → b < n → Single n (P .health) (P .last) b
+  call-free P₀ rs reply {rest = rest} stands replied d m u b hb =
+      moment-single n P₀ rs stands (rw (same-phases d (replied .decoded)) at m) (unless rs rest u) b hb
+
+  pub call-replied : {before : Calls} {W : World} (call : Call) → Ended controller n buffer before W
+      → isServed (replyTo controller (W .ring) call) ≡ true
+      → Replied n (afterWords (words call) (W .plant)) (replyTo controller (W .ring) call)
+  unfolding afterWords
+  call-replied (step r lending) h e = step-replied (steady h) r lending e
+
+  pub call-answered : {before : Calls} {W : World} (call : Call) → Ended controller n buffer before W
+      → Answered (Meets n (W .plant) call) (W .ring) (lent call) (replyTo controller (W .ring) call)
+  call-answered (step r lending) h = step-answered big small (steady h) r lending
+
+  in-call-free : (W : World) {before : Calls} {P : PlantState} (call : Call) {ph : Phases} {rest : List Operation}
+      → Ended controller n buffer before W
+      → isServed (replyTo controller (W .ring) call) ≡ true → decode n (replyTo controller (W .ring) call .buffer) ≡ some ph
+      → Moment ph (afterWords (words call) (W .plant)) rest P → excepted (words call) rest ≡ false → (b : ℕ) → b < n
+      → Single n (P .health) (P .last) b
+  in-call-free W call h e d m u =
+      call-free (W .plant) (words call) (replyTo controller (W .ring) call) (as-planned h) (call-replied call h e) d m u
+
+  clash-free : {calls : Calls} {P : PlantState} {t : Bool} → Interrupted controller n buffer calls P t → t ≡ false → (b : ℕ) → b < n
+      → Single n (P .health) (P .last) b
+  unfolding afterWords
+  clash-free (in-start e d m) u = call-free freshPlant [] (startReply n buffer) (λ p i c. contra c refl) start-replied d m u
+  clash-free (between {W = W} i h) u = closing-single n (W .plant .health) (W .plant .last) (as-planned h)
+  clash-free (in-call {W = W} call i h e d m) u = in-call-free W call h e d m u
+
+  holds : (calls : Calls) → Holds controller n buffer calls
+  unfolding afterWords
+  holds calls = record {
+    ends = ends calls;
+    shown = λ i h b hb. bus-shown small (steady h) b hb;
+    given = λ i h. as-given (steady h);
+    start-chosen = as-chosen start-replied;
+    chosen = λ call i h e. as-chosen (call-replied call h e);
+    no-clash = λ {P} m b g h hb. no-clash n (P .health) (P .last) b (clash-free m refl b hb) g h;
+    answered = λ call i h. call-answered call h;
+  }
+
+pub demand3 : Demand3 controller
+demand3 = record { start-answered = start-answered; holds = holds }

@@ -1,0 +1,1 @@
+// Theorems alone: specs/ has them. No code.
