@@ -42,14 +42,14 @@ use Rattle.theory.specs.Proofs.Paths.{
 }
 use Rattle.theory.specs.Proofs.Choosing.{safe-chosen, chosen-ends}
 use Rattle.planner.specs.declared.progress.Progress.{Progress}
-use Rattle.planner.specs.declared.search.Span.{Span}
-use Rattle.planner.specs.declared.search.Found.{Found}
-use Rattle.planner.specs.declared.search.Found.the-variants as found
+use Rattle.paths.specs.declared.Span.{Span}
+use Rattle.paths.specs.declared.Found.{Found}
+use Rattle.paths.specs.declared.Found.the-variants as found
 use Rattle.sources.specs.Sources.{mayFeed}
 use Rattle.walks.specs.Arrays.{at, setAll, set-all-places, both}
 use Rattle.walks.specs.Walk.{outward, outward-at, outward-in, closedBy, reach, reach-at, reach-connected}
-use Rattle.planner.specs.Search.{spanOf, passesBy, pathFound}
-use Rattle.planner.specs.Owner.{owner, pathSteps, passes, ends-in, owner-more, walk-choice}
+use Rattle.paths.specs.Search.{spanOf, passesBy, pathFound}
+use Rattle.paths.specs.Owner.{owner, pathSteps, passes, ends-in, owner-more, walk-choice}
 
 -- the choice of the bus served last
 unfoldable pub lastChoice : ℕ → PartHealth → ℕ → Choice

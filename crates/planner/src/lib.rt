@@ -12,7 +12,6 @@ use model::Health;
 use progress::Progress;
 
 mod progress;
-mod search;
 
 // What a plan gives: each bus's choice and each part's command.
 pub struct Planned {

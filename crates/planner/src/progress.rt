@@ -8,12 +8,11 @@ ghost use Rattle.model.specs.Reports.{places, healthOf};
 ghost use Rattle.theory.specs.Proofs.Paths.{pathTo};
 ghost use Rattle.sources.specs.Sources.{mayFeed};
 ghost use Rattle.planner.specs.Progress.{served, taken, darkened};
-use super::search;
-use super::search::Found;
 use model::BusChoice;
 use model::Choice;
 use model::Commands;
 use model::Health;
+use paths::Found;
 
 // The choice of the bus served last, the owner of each bus (the number of the chosen generator that it is connected to, or 0), and
 // the commands that the paths chosen so far call for.
@@ -32,7 +31,7 @@ fn named(n: usize, b: usize, g: usize, rising: bool) -> Choice
     if g == b {
         return Choice::Own(number);
     }
-    if rising == search::high_rises(n, b, g) {
+    if rising == paths::high_rises(n, b, g) {
         return Choice::High(number);
     }
     Choice::Low(number)
@@ -48,7 +47,7 @@ fn take(n: usize, health: Health, progress: Progress, b: usize, g: usize, rising
     generators[g] = true;
     let mut generator_breakers = progress.commands.generator_breakers;
     generator_breakers[g] = true;
-    let span = search::span_of(n, b, g, rising);
+    let span = paths::span_of(n, b, g, rising);
     let before = progress.commands.bus_breakers;
     let bus_breakers = walks::close(n, before, g, rising, span.steps);
     let last = BusChoice {
@@ -89,9 +88,9 @@ pub fn serve(n: usize, health: Health, usable: [bool; 20], progress: Progress, b
     requires before { ⌜ progress ≡ served n (healthOf health) b ⌝ }
     ensures { λ r. ⌜ r ≡ served n (healthOf health) (b + 1) ⌝ }
 {
-    let bus_breakers = health.bus_breakers;
+    let breakers = health.bus_breakers;
     let owners = progress.owners;
-    match search::search(n, &usable, &bus_breakers, &owners, b) {
+    match paths::search(n, &usable, &breakers, &owners, b) {
         Found::Nothing => darken(progress),
         Found::Path { source: g, rising } => take(n, health, progress, b, g, rising),
     }

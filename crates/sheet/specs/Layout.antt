@@ -10,7 +10,7 @@ use Rattle.model.specs.declared.Commands.{Commands}
 use Rattle.model.specs.Sheet.{sheetOf, sheet, written}
 use Rattle.model.specs.Reports.{commandsOf}
 use Rattle.model.specs.Laws.Appended.{Appended, appended-written}
-use Rattle.sheet.specs.Codes.{openingCodes, closingCodes}
+use Rattle.phases.specs.Codes.{openingCodes, closingCodes}
 
 -- the sheet of the codes of both phases
 unfoldable pub layout : List ℕ → List ℕ → List ℕ

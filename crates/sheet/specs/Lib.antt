@@ -1,3 +1,3 @@
-pub mod Codes
+-- The laws of the sheet's bytes.
 pub mod Layout
 pub mod Writing

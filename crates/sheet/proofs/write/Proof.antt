@@ -12,40 +12,40 @@ use Rattle.model.specs.Reports.{commandsOf}
 use Rattle.model.specs.Laws.Tests.{facts}
 use Rattle.model.specs.Laws.Sheet.{sheet-fits}
 use Rattle.model.specs.Laws.Appended.{appended-length, appended-front}
-use Rattle.sheet.specs.Codes.{openingCodes, closingCodes}
+use Rattle.phases.specs.Codes.{openingCodes, closingCodes}
 use Rattle.sheet.specs.Layout.{layout, sheet-layout, layout-length}
 use Rattle.sheet.specs.Writing.{write-refused, write-served}
 use Rattle.sheet.proofs.write.Statement.{statement}
 use Rattle.sheet.proofs.write.Tie as tie
 
 -- what was known before the phases were made
-abbrev start : tie.After-phases → tie.Start
+abbrev start : tie.After-both → tie.Start
 start d = d .before .before .before .before
 
 -- the sheet
-abbrev bytes : tie.After-phases → List ℕ
+abbrev bytes : tie.After-both → List ℕ
 bytes d = let a = start d .args in sheet (a .n) (commandsOf (a .old)) (commandsOf (a .new))
 
 -- the counts are the phases' sizes
-counted : (d : tie.After-phases)
-    → (length (bytes d) ≡ 2 + 2 * (d .phases .result .opening + d .phases .result .closing)) × (length (bytes d) ≤ 122)
+counted : (d : tie.After-both)
+    → (length (bytes d) ≡ 2 + 2 * (d .both .result .opening + d .both .result .closing)) × (length (bytes d) ≤ 122)
 counted d =
     let a = start d .args in (
-      ap length (sheet-layout (a .n) (a .old) (a .new)) ∙ layout-length _ _ ∙ omega (arith, d .phases .ensures),
+      ap length (sheet-layout (a .n) (a .old) (a .new)) ∙ layout-length _ _ ∙ omega (arith, d .both .ensures),
       sheet-fits (a .n) (commandsOf (a .old)) (commandsOf (a .new)) (start d .pre),
     )
 
 -- the codes that the arrays hold are the phases'
-made : (d : tie.After-phases)
+made : (d : tie.After-both)
     → layout
-    (take (d .phases .result .opening) (d .phases .last .1 .1 .1 .0))
-    (take (d .phases .result .closing) (d .phases .last .1 .1 .1 .1 .0))
+    (take (d .both .result .opening) (d .both .last .1 .1 .1 .0))
+    (take (d .both .result .closing) (d .both .last .1 .1 .1 .1 .0))
     ≡ bytes d
 made d =
     let a = start d .args in
-    let o : length (openingCodes (a .n) (a .old) (a .new)) ≤ 60 = omega (arith, counted d, d .phases .ensures) in
-    let k : length (closingCodes (a .n) (a .old) (a .new)) ≤ 60 = omega (arith, counted d, d .phases .ensures) in
-    rw (appended-front (d .phases .ensures .0) o, appended-front (d .phases .ensures .1) k) (sym (sheet-layout (a .n) (a .old) (a .new)))
+    let o : length (openingCodes (a .n) (a .old) (a .new)) ≤ 60 = omega (arith, counted d, d .both .ensures) in
+    let k : length (closingCodes (a .n) (a .old) (a .new)) ≤ 60 = omega (arith, counted d, d .both .ensures) in
+    rw (appended-front (d .both .ensures .0) o, appended-front (d .both .ensures .1) k) (sym (sheet-layout (a .n) (a .old) (a .new)))
 
 add-size : tie.Need-add-size
 add-size c = omega (arith, counted (c .before))
@@ -60,9 +60,9 @@ returns : tie.Need-returns
 returns c = let d = c .before .before in write-refused _ _ (omega (arith, facts, counted d))
 
 -- the part lent is as long as the sheet
-lent : (d : tie.After-phases) → length (bytes d) ≤ length (now (start d .args .buffer))
-    → length (take (2 + 2 * (d .phases .result .opening + d .phases .result .closing)) (now (start d .args .buffer)))
-    ≡ 2 + 2 * (d .phases .result .opening + d .phases .result .closing)
+lent : (d : tie.After-both) → length (bytes d) ≤ length (now (start d .args .buffer))
+    → length (take (2 + 2 * (d .both .result .opening + d .both .result .closing)) (now (start d .args .buffer)))
+    ≡ 2 + 2 * (d .both .result .opening + d .both .result .closing)
 lent d h = length-take-le _ (now (start d .args .buffer)) (omega (arith, counted d))
 
 slice-aggregate-lay-out : tie.Need-slice-aggregate-lay-out
@@ -73,9 +73,9 @@ slice-aggregate-lay-out c =
 lay-out-requires : tie.Need-lay-out-requires
 lay-out-requires c κs =
     let d = c .before .before .before .before .before in (
-      appended-length (d .phases .ensures .0),
+      appended-length (d .both .ensures .0),
       (
-        appended-length (d .phases .ensures .1),
+        appended-length (d .both .ensures .1),
         (
           omega (arith, counted d),
           (
@@ -92,8 +92,8 @@ returns-2 c =
     write-served (bytes d) (now (start d .args .buffer)) (omega (arith, facts, counted d)) _ _
     (c .before .before .lay-out .ensures ∙ made d) (sym (counted d .0))
 
-phases-requires : tie.Need-phases-requires
-phases-requires c κs = search needs
+both-requires : tie.Need-both-requires
+both-requires c κs = search needs
 
 slice-relend-prefix-lay-out : tie.Need-slice-relend-prefix-lay-out
 slice-relend-prefix-lay-out c = omega (arith, facts)
@@ -105,7 +105,7 @@ pub write-spec : {M : Type 1} → statement M
 write-spec =
     tie.close
     (tie.spec
-    phases-requires
+    both-requires
     add-size
     mul-size
     add-size-2

@@ -3,7 +3,7 @@ use Rattle.model.specs.Laws.Tests.{auto}
 use Rattle.planner.proofs.progress.take.Statement.{statement}
 use Rattle.planner.proofs.progress.take.Tie as tie
 use Rattle.model.specs.Reports.{healthOf}
-use Rattle.planner.specs.Search.{span-lt}
+use Rattle.paths.specs.Search.{span-lt}
 use Rattle.planner.specs.Progress.{taken-by}
 
 array-write-generators : tie.Need-array-write-generators
