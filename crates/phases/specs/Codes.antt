@@ -15,7 +15,7 @@ use Rattle.model.specs.Sheet.{opening, closing}
 use Rattle.model.specs.Reports.{commandsOf}
 use Rattle.model.specs.Laws.Tests.{contra, by-cond}
 use Rattle.model.specs.Laws.Lists.{below-in, below-lt, any-none, keep-append, keep-map, keep-none}
-use Rattle.model.specs.Laws.Appended.{Appended, appended-none, appended-one}
+use Rattle.model.specs.Laws.Appended.{Appended, appended-none, appended-one, appended-more}
 
 -- the codes of the opening phase
 abbrev pub openingCodes : ℕ → Commands → Commands → List ℕ
@@ -95,3 +95,9 @@ pub codes-parts : (f : Part → Bool) (n : ℕ)
     ≡ codes (λ i. f (generator i)) 0 n ++ codes (λ i. f (generatorBreaker i)) 32 n ++ codes (λ i. f (busBreaker i)) 64 n
 unfolding codes parts partCode
 codes-parts f n = simp (keep-append, keep-map, map-append, map-map, append-assoc)
+
+-- the codes of the three kinds one behind the other
+pub appended-kinds : (f : Part → Bool) (n : ℕ) {l l′ l″ l‴ : List ℕ} {i j k m : ℕ}
+    → Appended (codes (λ b. f (generator b)) 0 n) l i l′ j → Appended (codes (λ b. f (generatorBreaker b)) 32 n) l′ j l″ k
+    → Appended (codes (λ b. f (busBreaker b)) 64 n) l″ k l‴ m → Appended (map partCode (keep f (parts n))) l i l‴ m
+appended-kinds f n a b c = rw codes-parts (appended-more (appended-more a b) c)

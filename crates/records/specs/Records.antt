@@ -50,15 +50,6 @@ module _ (n : ℕ) (H : PartHealth) (C : PartCommands) where
 abbrev pub differs : PartCommands → PartCommands → Part → Bool
 differs C D p = not (Bool·beq (C p) (D p))
 
--- two commands are compared in either order
-pub turned : (a b t : Bool) → not (Bool·beq b a) ≡ t → not (Bool·beq a b) ≡ t
-turned true true t e = e
-turned true false t e = e
-turned false true t e = e
-turned false false t e = e
-
-pub ruleset compared = (turned)
-
 -- .. and some part has
 unfoldable pub anyDiffer : PartCommands → PartCommands → Bool
 anyDiffer C D = anyOf (differs C D) (parts largest)

@@ -1,6 +1,6 @@
 -- What a test that passed or failed says.
 use mathlib.Core.Path.{_≡_, refl, sym}
-use mathlib.Core.Bool.{Bool, true, false, not, _&&_, _||_, cond}
+use mathlib.Core.Bool.{Bool, true, false, not, _&&_, _||_, cond, Bool·beq}
 use mathlib.Core.Logic.{_≢_, _⊎_, inl, inr}
 use Prim.Native.Nat.{ℕ, _+_, _≤_, _<_}
 use native.Mathlib.Omega.{arith}
@@ -144,6 +144,15 @@ pub ruleset facts = (
   true-false,
   false-true,
 )
+
+-- two commands are compared in either order
+pub turned : (a b t : Bool) → not (Bool·beq b a) ≡ t → not (Bool·beq a b) ≡ t
+turned true true t e = e
+turned true false t e = e
+turned false true t e = e
+turned false false t e = e
+
+pub ruleset compared = (turned)
 
 -- one index more below a bound: what is picked at another index stays, and at that index it is the first
 module _ {A : Type 0} (x y : A) where

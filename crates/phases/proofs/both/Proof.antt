@@ -3,8 +3,7 @@ use native.Mathlib.Omega.{arith}
 use borrow.Author.Needs.{needs}
 use Rattle.model.specs.Sheet.{opening, closing}
 use Rattle.model.specs.Reports.{commandsOf}
-use Rattle.model.specs.Laws.Appended.{appended-more}
-use Rattle.phases.specs.Codes.{codes-parts}
+use Rattle.phases.specs.Codes.{appended-kinds}
 use Rattle.phases.proofs.both.Statement.{statement}
 use Rattle.phases.proofs.both.Tie as tie
 
@@ -31,8 +30,8 @@ unfolding opening closing commandsOf
 returns c =
     let e = c .before .before .before .before .before .before .before in
     let d = second e in (
-      rw codes-parts (appended-more (appended-more (d .collect .ensures .0) (e .collect2 .ensures .0)) (c .collect3 .ensures .0)),
-      rw codes-parts (appended-more (appended-more (d .collect .ensures .1 .0) (e .collect2 .ensures .1 .0)) (c .collect3 .ensures .1 .0)),
+      appended-kinds _ _ (d .collect .ensures .0) (e .collect2 .ensures .0) (c .collect3 .ensures .0),
+      appended-kinds _ _ (d .collect .ensures .1 .0) (e .collect2 .ensures .1 .0) (c .collect3 .ensures .1 .0),
     )
 
 collect-requires : tie.Need-collect-requires

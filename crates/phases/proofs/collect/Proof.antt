@@ -1,6 +1,6 @@
 -- `collect`: after i turns each phase has the codes of the first i parts that change so.
 use mathlib.Core.Path.{_≡_, sym, _∙_}
-use mathlib.Core.Bool.{false}
+use mathlib.Core.Bool.{true, false, not, Bool·beq}
 use mathlib.Core.Logic.{⊎-elim}
 use Prim.Native.Nat.{_+_, _-_, _≤_}
 use native.Mathlib.Omega.{arith}
@@ -9,6 +9,7 @@ use lib.ListN.{getD}
 use borrow.Author.Tests.{not-true}
 use borrow.Author.Needs.{needs}
 use Rattle.model.specs.Lists.{below, keep}
+use Rattle.model.specs.Laws.Tests.{compared}
 use Rattle.model.specs.Laws.Appended.{Appended, appended-none}
 use Rattle.phases.specs.Codes.{opens, closes, codes, turned-on, turned-off, kept, unchanged, codes-none, codes-miss, codes-hit}
 use Rattle.phases.proofs.collect.Statement.{statement}
@@ -44,7 +45,8 @@ loop-again c =
     let is = getD (now (a .new)) (l .i) false in
     ⊎-elim
     (λ w.
-    let t = turned-on was is (w .0 .taken) (w .1 .taken) in (
+    let d : not (Bool·beq was is) ≡ true = search compared in
+    let t = turned-on was is d (w .1 .taken) in (
       rw (w .2, w .4) (codes-miss _ _ _ (l .inv .0) (t .0)),
       rw (w .3, w .5) (codes-hit _ _ _ (l .inv .1) (t .1)),
       omega arith,
@@ -53,7 +55,8 @@ loop-again c =
     ))
     (⊎-elim
     (λ w.
-    let t = turned-off was is (w .0 .taken) (w .1 .left) in (
+    let d : not (Bool·beq was is) ≡ true = search compared in
+    let t = turned-off was is d (w .1 .left) in (
       rw (w .2, w .4) (codes-hit _ _ _ (l .inv .0) (t .0)),
       rw (w .3, w .5) (codes-miss _ _ _ (l .inv .1) (t .1)),
       omega arith,
@@ -61,7 +64,8 @@ loop-again c =
       omega arith,
     ))
     (λ w.
-    let t = kept was is (w .0 .left) in (
+    let d : not (Bool·beq was is) ≡ false = search compared in
+    let t = kept was is d in (
       rw (w .1, w .3) (codes-miss _ _ _ (l .inv .0) (t .0)),
       rw (w .2, w .4) (codes-miss _ _ _ (l .inv .1) (t .1)),
       omega arith,

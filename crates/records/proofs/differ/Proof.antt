@@ -8,7 +8,8 @@ use Rattle.model.specs.declared.Part.{Part}
 use Rattle.model.specs.Plant.{generator, generatorBreaker, busBreaker, InRing}
 use Rattle.model.specs.Reports.{commandsOf}
 use Rattle.model.specs.Laws.Parts.{ring-more, some-part, no-part}
-use Rattle.records.specs.Records.{differs, compared, anyDiffer}
+use Rattle.model.specs.Laws.Tests.{compared}
+use Rattle.records.specs.Records.{differs, anyDiffer}
 use Rattle.records.proofs.differ.Statement.{statement}
 use Rattle.records.proofs.differ.Tie as tie
 

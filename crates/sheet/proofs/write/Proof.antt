@@ -35,12 +35,15 @@ counted d =
       sheet-fits (a .n) (commandsOf (a .old)) (commandsOf (a .new)) (start d .pre),
     )
 
--- the codes that the arrays hold are the phases'
-made : (d : tie.After-both)
-    → layout
+-- what is laid out of the arrays
+abbrev laid : tie.After-both → List ℕ
+laid d =
+    layout
     (take (d .both .result .opening) (d .both .last .1 .1 .1 .0))
     (take (d .both .result .closing) (d .both .last .1 .1 .1 .1 .0))
-    ≡ bytes d
+
+-- the codes that the arrays hold are the phases'
+made : (d : tie.After-both) → laid d ≡ bytes d
 made d =
     let a = start d .args in
     let o : length (openingCodes (a .n) (a .old) (a .new)) ≤ 60 = omega (arith, counted d, d .both .ensures) in
@@ -90,7 +93,7 @@ returns-2 : tie.Need-returns-2
 returns-2 c =
     let d = c .before .before .before .before .before .before .before .before in
     write-served (bytes d) (now (start d .args .buffer)) (omega (arith, facts, counted d)) _ _
-    (c .before .before .lay-out .ensures ∙ made d) (sym (counted d .0))
+    (_∙_ {b = laid d} (c .before .before .lay-out .ensures) (made d)) (sym (counted d .0))
 
 both-requires : tie.Need-both-requires
 both-requires c κs = search needs
