@@ -1,6 +1,6 @@
 -- The part codes of each phase, collected kind by kind.
 use mathlib.Core.Path.{_≡_, refl, ap}
-use mathlib.Core.Bool.{Bool, true, false, not, _&&_, cond, Bool·beq}
+use mathlib.Core.Bool.{Bool, true, false, not, _&&_, _||_, cond, Bool·beq}
 use mathlib.Core.List.{List, [], _∷_, _++_, map, map-append, map-map, append-assoc, append-nil}
 use Prim.Native.Nat.{ℕ, _+_, _≤_}
 use native.Mathlib.Numerals.{add-one}
@@ -14,7 +14,7 @@ use Rattle.model.specs.Plant.{largest, generator, generatorBreaker, busBreaker,
 use Rattle.model.specs.Sheet.{opening, closing}
 use Rattle.model.specs.Reports.{commandsOf}
 use Rattle.model.specs.Laws.Tests.{contra, by-cond}
-use Rattle.model.specs.Laws.Lists.{below-in, below-lt, any-none, keep-append, keep-map, keep-none}
+use Rattle.model.specs.Laws.Lists.{below-in, below-lt, any-none, any-below, keep-append, keep-map, keep-none}
 use Rattle.model.specs.Laws.Appended.{Appended, appended-none, appended-one, appended-more}
 
 -- the codes of the opening phase
@@ -58,6 +58,11 @@ kept true true e = (refl, refl)
 kept false false e = (refl, refl)
 kept true false e = contra refl e
 kept false true e = contra refl e
+
+-- one command more: t says whether it changes
+pub any-more : (old new : List Bool) (i : ℕ) {b t : Bool} → b ≡ anyOf (changes old new) (below i) → t ≡ changes old new i
+    → b || t ≡ anyOf (changes old new) (below (i + 1))
+any-more old new i e f = rw f (any-below (changes old new) i e)
 
 -- where no command of a kind changes, none opens or closes
 pub unchanged : (old new : List Bool) (n : ℕ) → n ≤ largest → anyOf (changes old new) (below largest) ≡ false

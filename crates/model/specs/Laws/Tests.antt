@@ -152,7 +152,10 @@ turned true false t e = e
 turned false true t e = e
 turned false false t e = e
 
-pub ruleset compared = (turned)
+pub either : (a b : Bool) → not (Bool·beq b a) ≡ not (Bool·beq a b)
+either a b = sym (turned a b _ refl)
+
+pub ruleset compared = (turned, either, refl)
 
 -- one index more below a bound: what is picked at another index stays, and at that index it is the first
 module _ {A : Type 0} (x y : A) where

@@ -2,10 +2,11 @@
 use mathlib.Core.Path.{_≡_, refl}
 use Prim.Native.Nat.{_-_, _≤_}
 use native.Mathlib.Omega.{arith}
+use denote.Ref.{now}
 use borrow.Author.Needs.{needs}
 use Rattle.model.specs.Lists.{below, anyOf}
-use Rattle.model.specs.Laws.Lists.{any-below}
-use Rattle.phases.specs.Codes.{changes}
+use Rattle.model.specs.Laws.Tests.{compared}
+use Rattle.phases.specs.Codes.{changes, any-more}
 use Rattle.phases.proofs.differ.Statement.{statement}
 use Rattle.phases.proofs.differ.Tie as tie
 
@@ -20,7 +21,10 @@ unfolding below anyOf
 loop-holds c = (refl, search needs)
 
 loop-again : tie.Need-loop-again Inv-loop μ-loop
-loop-again c = let l = c .before .before .before .loop in (any-below _ (l .i) (l .inv .0), search needs)
+loop-again c =
+    let l = c .before .before .before in
+    let a = l .before .args in
+    (any-more (now (a .old)) (now (a .new)) (l .loop .i) (l .loop .inv .0) (search compared), search needs)
 
 returns : tie.Need-returns Inv-loop μ-loop
 returns c = let e : c .before .loop .i ≡ 20 = omega arith in rw (← e) (c .before .loop .inv .0)
