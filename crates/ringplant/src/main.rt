@@ -5,10 +5,8 @@ use libc::STDERR_FILENO;
 use libc::STDIN_FILENO;
 use libc::STDOUT_FILENO;
 use model::BusFeed;
-use model::Commands;
 use model::Feed;
 use model::FeedsAnswer;
-use model::Health;
 use model::Outcome;
 
 // Prints some words and a number behind them; false where they could not be written, as everywhere here.
@@ -56,16 +54,8 @@ fn print_answer(n: u8, answer: FeedsAnswer) -> bool {
 
 // "The plant reckoning takes n, the health of all parts and any set of orders."
 fn reckoned(case: &[u8; 121]) -> FeedsAnswer {
-    let health = Health {
-        generators: cases::bytes_at(case, 1),
-        generator_breakers: cases::bytes_at(case, 21),
-        bus_breakers: cases::bytes_at(case, 41),
-    };
-    let commands = Commands {
-        generators: cases::commands_at(case, 61),
-        generator_breakers: cases::commands_at(case, 81),
-        bus_breakers: cases::commands_at(case, 101),
-    };
+    let health = cases::health_at(case, 1);
+    let commands = cases::commands_at(case, 61);
     plant::feeds(case[0], health, commands)
 }
 

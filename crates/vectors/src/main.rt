@@ -3,7 +3,7 @@ ghost use mathlib.Core.Path.{_≡_};
 ghost use Prim.Native.Nat.{_≤_, _<_};
 ghost use lib.ListN.{length};
 ghost use Rattle.model.specs.Text.{lineRoom};
-use libc::STDOUT_FILENO;
+use cases::Tally;
 
 // Whether the next stored bytes are ours.
 fn next_is(stored: i32, ours: &[u8], expected: &mut [u8]) -> bool
@@ -39,7 +39,7 @@ fn size_of(low: u8, high: u8) -> usize
 }
 
 // A case: the file, and behind it the text. A text that is longer or shorter than ours is found by the mark behind it.
-fn case_agrees(stored: i32, size: usize) -> bool
+fn agrees(stored: i32, size: usize) -> bool
     requires { ⌜ size < 65536 ⌝ }
 {
     let mut file = io::large_buffer();
@@ -52,32 +52,18 @@ fn case_agrees(stored: i32, size: usize) -> bool
     got == size && same && mark[0] == 0
 }
 
-// 1 where the run is not the simulation's.
-fn misses(stored: i32, size: &[u8; 2]) -> u64
-    ensures { λ r. ⌜ r ≤ 1 ⌝ }
-{
-    if case_agrees(stored, size_of(size[0], size[1])) {
-        0
-    } else {
-        1
-    }
-}
-
 fn main() {
-    // The gate puts data/cases beside the program.
-    let stored = os::open_read(b"cases");
-    let mut cases: u64 = 0;
-    let mut differ: u64 = 0;
+    let stored = cases::stored();
+    let mut tally = Tally {
+        cases: 0,
+        differ: 0,
+    };
     for _ in 0..100000usize {
         let mut size = [0u8; 2];
         if io::read_full(stored, &mut size) < 2 {
             break;
         }
-        cases += 1;
-        differ += misses(stored, &size);
+        tally = cases::counted(tally, agrees(stored, size_of(size[0], size[1])));
     }
-    io::print_decimal(STDOUT_FILENO, cases);
-    io::write_all(STDOUT_FILENO, b" cases, ");
-    io::print_decimal(STDOUT_FILENO, differ);
-    io::write_all(STDOUT_FILENO, b" differ\n");
+    cases::print(tally);
 }

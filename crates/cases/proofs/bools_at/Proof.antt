@@ -1,4 +1,4 @@
--- `cases::commands_at` meets its contract. The loop's invariant: the places below i are filled.
+-- `cases::bools_at` meets its contract. The loop's invariant: the places below i are filled.
 use mathlib.Core.Path.{_≡_, _∙_}
 use mathlib.Core.Bool.{false}
 use lib.Dec.{eqb}
@@ -7,14 +7,14 @@ use native.Mathlib.Nat.{le-antisymm}
 use lib.ListN.{getD}
 use borrow.Author.Needs.{needs}
 use Rattle.model.specs.Laws.Parts.{filledTo, filled-none, filled-more, filled-all}
-use Rattle.cases.proofs.commands_at.Statement.{statement}
-use Rattle.cases.proofs.commands_at.Tie as tie
+use Rattle.cases.proofs.bools_at.Statement.{statement}
+use Rattle.cases.proofs.bools_at.Tie as tie
 
 abbrev Inv-loop : tie.InvT-loop
-Inv-loop case from commands₀ i₀ commands i = (commands ≡ filledTo false (λ j. eqb (getD case (from + j) 0) 1) i) × (i ≤ 20)
+Inv-loop case from bools₀ i₀ bools i = (bools ≡ filledTo false (λ j. eqb (getD case (from + j) 0) 1) i) × (i ≤ 20)
 
 abbrev μ-loop : tie.MeasureT-loop
-μ-loop case from commands₀ i₀ commands i = 20 - i
+μ-loop case from bools₀ i₀ bools i = 20 - i
 
 loop-again : tie.Need-loop-again Inv-loop μ-loop
 loop-again c = let l = c .before .before .loop in (rw (l .inv .0) (filled-more false _ (l .i)), search needs)
@@ -22,8 +22,8 @@ loop-again c = let l = c .before .before .loop in (rw (l .inv .0) (filled-more f
 returns : tie.Need-returns Inv-loop μ-loop
 returns c = let l = c .before .loop in rw (le-antisymm (l .inv .1) (c .loop-test .left)) at (l .inv .0) ∙ filled-all false _
 
-pub commands-at-spec : {M : Type 1} → statement M
-commands-at-spec =
+pub bools-at-spec : {M : Type 1} → statement M
+bools-at-spec =
     tie.close
     (tie.spec
     Inv-loop
