@@ -1,1 +1,2 @@
+-- The laws of refused calls.
 pub mod Replies

@@ -1,3 +1,4 @@
+-- What the user demands of a controller, and that ours meets it.
 pub mod Statements
 pub mod Theorems
 pub mod Proofs

@@ -1,3 +1,4 @@
+-- What follows from the definitions alone.
 pub mod Tests
 pub mod Lists
 pub mod Parts

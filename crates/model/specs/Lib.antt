@@ -1,3 +1,4 @@
+-- The rules of document 01 as definitions, a file a section, and their laws.
 pub mod Laws
 pub mod Lists
 pub mod Values

@@ -1,3 +1,4 @@
+-- The laws of the reckoning.
 pub mod Walk
 pub mod Feeders
 pub mod Buses

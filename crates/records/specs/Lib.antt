@@ -1,1 +1,2 @@
+-- The laws of refusal 9.
 pub mod Records

@@ -1,1 +1,2 @@
+-- The laws of a word's effect.
 pub mod Words

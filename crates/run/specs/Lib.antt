@@ -1,1 +1,2 @@
+-- The laws of the printed run.
 pub mod Filling

@@ -1,4 +1,5 @@
-// The printed run of a fault file (document 01, "The printed run") as bytes in a lent buffer, piece by piece.
+// The printed run of a fault file (document 01, "The printed run") as bytes in a lent buffer, piece by piece. Places are
+// counted from 0.
 ghost use mathlib.Core.Path.{_≡_};
 ghost use mathlib.Core.List.{List, _++_};
 ghost use Prim.Native.Nat.{ℕ, _<_, _≤_};

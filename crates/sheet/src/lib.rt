@@ -1,4 +1,4 @@
-// The command sheet (document 01: order sheet) in a lent buffer.
+// The command sheet (document 01: order sheet) in a lent buffer. Places of the buffer are indices from 0.
 ghost use mathlib.Core.Path.{_≡_};
 ghost use Prim.Native.Nat.{_+_, _-_, _*_, _≤_};
 ghost use lib.ListN.{length, take, replicate};

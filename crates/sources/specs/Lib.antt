@@ -1,1 +1,2 @@
+-- The laws of a bus's sources.
 pub mod Sources

@@ -1,2 +1,3 @@
+-- The wrong controllers, and what each fails.
 pub mod Designs
 pub mod Controllers

@@ -25,7 +25,17 @@ use Rattle.model.specs.Laws.Lists.{any-false, map-in}
 use Rattle.model.specs.Laws.Parts.{parts-at, command-places}
 use Rattle.theory.specs.Theorems.Locality.{Agree, choices-ext, commands-ext, commanded-in-ring, sheet-ext}
 use Rattle.theory.specs.Theorems.Interruption.{Fewer}
-use Rattle.demands.specs.Statements.Demand3.{PlantState, Operation, operation, performAll, Phases, decode, Performed, performed, World}
+use Rattle.demands.specs.Statements.Demand3.{
+  PlantState,
+  Operation,
+  operation,
+  performAll,
+  Phases,
+  decode,
+  Performed,
+  performed,
+  World,
+}
 use Rattle.demands.specs.Proofs.Operations.{
   perform-health,
   Struck,

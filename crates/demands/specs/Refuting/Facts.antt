@@ -12,7 +12,16 @@ use Rattle.model.specs.Lists.{below, first, anyOf}
 use Rattle.model.specs.Values.{partCode}
 use Rattle.model.specs.Plant.{parts}
 use Rattle.model.specs.Reports.{partNamed}
-use Rattle.demands.specs.Statements.Demand3.{Operation, operation, commandNamed, withOperation, operations, phasesAt, decode, excepted}
+use Rattle.demands.specs.Statements.Demand3.{
+  Operation,
+  operation,
+  commandNamed,
+  withOperation,
+  operations,
+  phasesAt,
+  decode,
+  excepted,
+}
 
 -- a report of a part and a word
 abbrev pub report : Part → Word → Report
