@@ -18,8 +18,11 @@ pub struct Tally {
     pub differ: u64,
 }
 
-// The file of the cases: the gate puts data/cases beside the program.
-pub fn stored() -> i32 {
+// The file of the cases: the gate puts data/cases beside the program. What a descriptor leads to lies outside: the kit's call ensures
+// nothing either.
+pub fn stored() -> i32
+    ensures { λ _. ⊤ₛ }
+{
     os::open_read(b"cases")
 }
 
@@ -98,8 +101,10 @@ pub fn counted(tally: Tally, agrees: bool) -> Tally
     }
 }
 
-// The line that a program prints.
-pub fn print(tally: Tally) {
+// The line that a program prints. The gate holds it to the program's stdout; no contract can speak of what was written.
+pub fn print(tally: Tally)
+    ensures { λ _. ⊤ₛ }
+{
     io::print_decimal(STDOUT_FILENO, tally.cases);
     io::write_all(STDOUT_FILENO, b" cases, ");
     io::print_decimal(STDOUT_FILENO, tally.differ);
