@@ -1,4 +1,3 @@
 -- The laws of a run's lines.
-pub mod Lines
-pub mod Served
+pub mod Passed
 pub mod Run

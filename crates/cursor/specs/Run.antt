@@ -53,8 +53,9 @@ use Rattle.model.specs.Laws.Tests.{never, dec-eq}
 use Rattle.model.specs.Laws.Lists.{below-length, map-below-at}
 use Rattle.model.specs.Laws.Reports.{ReadOrRefused, read-or-refused}
 use Rattle.model.specs.Laws.Refusals.{size-bounds}
-use Rattle.cursor.specs.Lines.{Stored, Shown, Passed}
-use Rattle.cursor.specs.Served.{start-good, next-good}
+use Rattle.calls.specs.Lines.{Stored, Shown}
+use Rattle.calls.specs.Served.{start-good, next-good}
+use Rattle.cursor.specs.Passed.{Passed}
 
 -- ---- a file that is not refused
 

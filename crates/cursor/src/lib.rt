@@ -1,54 +1,18 @@
 // The line of a run at a cursor, and the cursor behind it, with the ring state there. Places and reports are counted from 0.
 ghost use mathlib.Core.Path.{_≡_};
-ghost use mathlib.Core.Bool.{false};
 ghost use Prim.Native.Nat.{_+_, _<_, _≤_};
 ghost use lib.ListN.{length};
-ghost use Rattle.model.specs.Reports.{fileCount, blankRing, told, withPlan};
-ghost use Rattle.model.specs.Refusals.{firstMet, reportConditions, fileRefusal, badRecord};
+ghost use Rattle.model.specs.Reports.{fileCount, withPlan};
+ghost use Rattle.model.specs.Refusals.{fileRefusal};
 ghost use Rattle.model.specs.Text.{runRing, stateAt, Within, lineRoom};
-ghost use Rattle.cursor.specs.Lines.{Shown, Passed};
+ghost use Rattle.calls.specs.Lines.{Shown};
+ghost use Rattle.cursor.specs.Passed.{Passed};
+use calls::Line;
 use model::FileAnswer;
-use model::Report;
 use model::ReportAnswer;
 use model::Ring;
 use model::RunCursor;
 use model::RunPiece;
-
-// A line in the front of a lent buffer: the ring state behind it, and its length.
-struct Line {
-    ring: Ring,
-    length: usize,
-}
-
-// Line 0, for the start.
-fn start_line(n: u8, out: &mut [u8]) -> Line
-    requires { ⌜ (3 ≤ n) × (n ≤ 20) × (lineRoom ≤ length (now out)) ⌝ }
-    ensures { λ r. ⌜ Shown 0 (blankRing n) (now (out .entry)) (now (out .exit)) (r .ring) (r .length) ⌝ }
-{
-    let mut sheet = [0u8; 122];
-    let answer = transition::start(n, &mut sheet);
-    let choices = answer.choices;
-    let ring = answer.ring;
-    let length = lines::sheet_line(0, n, choices, &sheet, out);
-    Line { ring, length }
-}
-
-// Line i, of a report that is not refused.
-fn step_line(ring: Ring, report: Report, i: usize, out: &mut [u8]) -> Line
-    requires { ⌜
-        (badRecord ring ≡ false) × (firstMet (reportConditions (ring .n) report) ≡ 0)
-        × (i < 10000) × (lineRoom ≤ length (now out))
-        ⌝ }
-    ensures { λ r. ⌜ Shown i (told ring report) (now (out .entry)) (now (out .exit)) (r .ring) (r .length) ⌝ }
-{
-    let mut sheet = [0u8; 122];
-    let n = ring.n;
-    let answer = transition::step(ring, report, &mut sheet);
-    let choices = answer.choices;
-    let ring = answer.ring;
-    let length = lines::sheet_line(i, n, choices, &sheet, out);
-    Line { ring, length }
-}
 
 // The line of report i, counted from 0, of a file that is served: none of its reports is refused or missing.
 fn report_line(ring: Ring, file: &[u8], i: usize, out: &mut [u8]) -> Line
@@ -60,7 +24,7 @@ fn report_line(ring: Ring, file: &[u8], i: usize, out: &mut [u8]) -> Line
 {
     let m = (file.len() - 3) / 2;
     match reports::report_at(ring.n, &file[3..3 + m], &file[3 + m..], i) {
-        ReportAnswer::Read(report) => step_line(ring, report, i + 1, out),
+        ReportAnswer::Read(report) => calls::step_line(ring, report, i + 1, out),
         ReportAnswer::Refused(_) => Line { ring, length: 0 },
         ReportAnswer::Missing => Line { ring, length: 0 },
     }
@@ -83,7 +47,7 @@ fn first_line(ring: Ring, file: &[u8], out: &mut [u8]) -> RunPiece
     requires { ⌜ (ring ≡ stateAt (now file) 0) × (lineRoom ≤ length (now out)) ⌝ }
     ensures { λ r. ⌜ Passed (now (file .entry)) 0 (now (out .entry)) (now (out .exit)) r ⌝ }
 {
-    match reports::check_file(file) {
+    match files::check_file(file) {
         FileAnswer::Refused(k) => {
             let length = lines::refused_text(k, out);
             piece_of(Line { ring, length }, 1, false)
@@ -108,7 +72,7 @@ pub fn next_line(cursor: RunCursor, file: &[u8], out: &mut [u8]) -> RunPiece
     let lines = (file.len() - 3) / 2 + 2;
     let next = place + 1;
     if place == 1 {
-        let line = start_line(file[0], out);
+        let line = calls::start_line(file[0], out);
         return piece_of(line, next, next < lines);
     }
     let line = report_line(ring, file, place - 2, out);

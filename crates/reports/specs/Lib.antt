@@ -1,3 +1,2 @@
--- The laws of the reports of a fault file and its checks.
+-- The laws of reports.
 pub mod Reports
-pub mod File

@@ -1,12 +1,11 @@
-// The reports of a fault file and its checks (document 01, "Fault file and reports"). Parts carry the paper's numbers, from 1; the
-// reports of a file are counted from 0.
+// The reports of a fault file (document 01, "Fault file and reports"). Parts carry the paper's numbers, from 1; the reports of a file
+// are counted from 0.
 ghost use mathlib.Core.Path.{_≡_};
 ghost use mathlib.Core.Option.{some};
-ghost use Rattle.model.specs.Values.{outcomeOf, outcomeNumber, reportValues, fileValues};
-ghost use Rattle.model.specs.Refusals.{firstMet, reportConditions, reportOf, reportAnswer, reportsRefusal};
-ghost use Rattle.model.specs.Answers.{reportAt, reportValuesAt, fileAnswer, wholeValues};
+ghost use Rattle.model.specs.Values.{outcomeOf, outcomeNumber, reportValues};
+ghost use Rattle.model.specs.Refusals.{firstMet, reportConditions, reportOf, reportAnswer};
+ghost use Rattle.model.specs.Answers.{reportAt, reportValuesAt};
 ghost use Rattle.reports.specs.Reports.{wordConditions};
-use model::FileAnswer;
 use model::Outcome;
 use model::Part;
 use model::PartAnswer;
@@ -89,48 +88,4 @@ pub fn report_at(n: u8, codes: &[u8], words: &[u8], i: usize) -> ReportAnswer
         return ReportAnswer::Missing;
     }
     report_of(n, codes[i], words[i])
-}
-
-// The first refusal among the reports of a file's part codes and words, first to last.
-fn check_reports(n: u8, codes: &[u8], words: &[u8]) -> Outcome
-    ensures { λ r. ⌜ r ≡ outcomeOf (reportsRefusal n (now (codes .entry)) (now (words .entry))) ⌝ }
-{
-    for i in 0..codes.len() {
-        match report_at(n, codes, words, i) {
-            ReportAnswer::Read(_) => {}
-            ReportAnswer::Refused(k) => {
-                return Outcome::Refused(k);
-            }
-            ReportAnswer::Missing => {
-                return Outcome::Served;
-            }
-        }
-    }
-    Outcome::Served
-}
-
-// A whole fault file: 1, 2, 3, 4, then its reports first to last.
-pub fn check_file(file: &[u8]) -> FileAnswer
-    ensures answer { λ r. ⌜ r ≡ fileAnswer (now (file .entry)) ⌝ }
-    ensures values { λ r. ⌜ fileValues r ≡ wholeValues (now (file .entry)) ⌝ }
-{
-    if file.len() < 3 {
-        return FileAnswer::Refused(1);
-    }
-    let n = file[0];
-    if components::size_outside(n) {
-        return FileAnswer::Refused(2);
-    }
-    let m = file[1] as usize + 256 * (file[2] as usize);
-    if 4096 < m {
-        return FileAnswer::Refused(3);
-    }
-    if file.len() != 3 + 2 * m {
-        return FileAnswer::Refused(4);
-    }
-    // "Each array is handed on as that stretch of the file, without a copy."
-    match check_reports(n, &file[3..3 + m], &file[3 + m..]) {
-        Outcome::Served => FileAnswer::Served(n, m),
-        Outcome::Refused(k) => FileAnswer::Refused(k),
-    }
 }

@@ -241,7 +241,7 @@ fn print_file(n: u8, m: usize, file: &[u8]) -> bool {
 
 // The trace of a file.
 fn print_trace(file: &[u8]) -> bool {
-    match reports::check_file(file) {
+    match files::check_file(file) {
         FileAnswer::Refused(k) => print_refused(k),
         FileAnswer::Served(n, m) => print_file(n, m, file),
     }

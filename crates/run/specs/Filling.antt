@@ -14,7 +14,8 @@ use Rattle.model.specs.declared.RunPiece.{RunPiece}
 use Rattle.model.specs.Sheet.{written}
 use Rattle.model.specs.Text.{runLines, joined, runLeft, cursorAt, Within}
 use Rattle.model.specs.Laws.Tests.{contra}
-use Rattle.cursor.specs.Lines.{Stored, Passed}
+use Rattle.calls.specs.Lines.{Stored}
+use Rattle.cursor.specs.Passed.{Passed}
 
 -- the lines from place k of a file's run up to a cursor stand there; where nothing is left or no room, there is one
 pub record Filling (f : List ℕ) (k : ℕ) (before after : List ℕ) (c : RunCursor) (size : ℕ) (goes : Bool) : Type 0 where

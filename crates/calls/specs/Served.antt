@@ -30,7 +30,7 @@ use Rattle.demands.specs.Statements.Records.{started}
 use Rattle.demands.specs.Theorems.Records.{step-good, made-good}
 use Rattle.text.specs.Buses.{AllNamed, Named}
 use Rattle.lines.specs.SheetLine.{SheetBytes, sheetLine, sheet-is, sheet-line}
-use Rattle.cursor.specs.Lines.{Shown}
+use Rattle.calls.specs.Lines.{Shown}
 
 -- ---- the answer and the sheet of a transition
 

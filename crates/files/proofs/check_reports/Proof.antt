@@ -1,10 +1,10 @@
--- `reports::check_reports` meets its contract. The loop's invariant: the reports before the i-th are not refused.
+-- `files::check_reports` meets its contract. The loop's invariant: the reports before the i-th are not refused.
 use Prim.Native.Nat.{_≤_, _-_}
 use mathlib.Core.Path.{refl}
 use borrow.Author.Needs.{needs}
-use Rattle.reports.specs.Reports.{DecidedFrom, reports-done, report-read, report-refused, report-missing}
-use Rattle.reports.proofs.check_reports.Statement.{statement}
-use Rattle.reports.proofs.check_reports.Tie as tie
+use Rattle.files.specs.Sequence.{DecidedFrom, reports-done, report-read, report-refused, report-missing}
+use Rattle.files.proofs.check_reports.Statement.{statement}
+use Rattle.files.proofs.check_reports.Tie as tie
 
 abbrev Inv-loop : tie.InvT-loop
 Inv-loop n codes words i₀ i-end i = DecidedFrom n codes words i × (i ≤ i-end)

@@ -1,11 +1,11 @@
--- `reports::check_file` meets its contract: the tests that lead to each return are those of the file's refusal.
+-- `files::check_file` meets its contract: the tests that lead to each return are those of the file's refusal.
 use mathlib.Core.Path.{sym, _∙_}
 use native.Mathlib.Omega.{arith}
 use borrow.Author.Needs.{needs}
 use Rattle.model.specs.Laws.Tests.{facts}
-use Rattle.reports.specs.File.{file-short, file-size, file-count, file-length, file-served, file-refused}
-use Rattle.reports.proofs.check_file.Statement.{statement}
-use Rattle.reports.proofs.check_file.Tie as tie
+use Rattle.files.specs.File.{file-short, file-size, file-count, file-length, file-served, file-refused}
+use Rattle.files.proofs.check_file.Statement.{statement}
+use Rattle.files.proofs.check_file.Tie as tie
 
 -- 1
 short : tie.Need-returns

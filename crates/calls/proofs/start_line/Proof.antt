@@ -2,9 +2,9 @@
 use native.Mathlib.Omega.{arith}
 use borrow.Author.Needs.{needs}
 use Rattle.model.specs.Reports.{blankRing}
-use Rattle.cursor.specs.Served.{start-given}
-use Rattle.cursor.proofs.start_line.Statement.{statement}
-use Rattle.cursor.proofs.start_line.Tie as tie
+use Rattle.calls.specs.Served.{start-given}
+use Rattle.calls.proofs.start_line.Statement.{statement}
+use Rattle.calls.proofs.start_line.Tie as tie
 
 sheet-line-requires : tie.Need-sheet-line-requires
 unfolding blankRing

@@ -3,9 +3,9 @@ use native.Mathlib.Omega.{arith}
 use borrow.Author.Needs.{needs}
 use Rattle.model.specs.Reports.{told}
 use Rattle.model.specs.Laws.Refusals.{good-size}
-use Rattle.cursor.specs.Served.{step-given}
-use Rattle.cursor.proofs.step_line.Statement.{statement}
-use Rattle.cursor.proofs.step_line.Tie as tie
+use Rattle.calls.specs.Served.{step-given}
+use Rattle.calls.proofs.step_line.Statement.{statement}
+use Rattle.calls.proofs.step_line.Tie as tie
 
 sheet-line-requires : tie.Need-sheet-line-requires
 unfolding told

@@ -1,0 +1,3 @@
+-- The laws of a fault file's checks.
+pub mod Sequence
+pub mod File
