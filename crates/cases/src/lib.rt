@@ -1,30 +1,14 @@
-// What the programs that run stored cases share: the file of the cases, the parts of a case, an outcome's number, and the tally. Places
-// are indices from 0.
+// What the programs that run stored cases read in a case: arrays of bytes and of commands, and an outcome's number. Places are indices
+// from 0.
 ghost use mathlib.Core.Path.{_≡_};
-ghost use mathlib.Core.Bool.{cond};
-ghost use Prim.Native.Nat.{_+_, _^_, _≤_, _<_};
+ghost use Prim.Native.Nat.{_+_, _≤_};
 ghost use lib.Dec.{eqb};
 ghost use lib.ListN.{length, getD};
 ghost use Rattle.model.specs.Values.{outcomeNumber};
 ghost use Rattle.model.specs.Reports.{places};
-use libc::STDOUT_FILENO;
 use model::Commands;
 use model::Health;
 use model::Outcome;
-
-// How many cases were run, and how many differ.
-pub struct Tally {
-    pub cases: u64,
-    pub differ: u64,
-}
-
-// The file of the cases: the gate puts data/cases beside the program. What a descriptor leads to lies outside: the kit's call ensures
-// nothing either.
-pub fn stored() -> i32
-    ensures { λ _. ⊤ₛ }
-{
-    os::open_read(b"cases")
-}
 
 // Twenty bytes of a case.
 pub fn bytes_at(case: &[u8], from: usize) -> [u8; 20]
@@ -86,27 +70,4 @@ pub fn outcome_number(outcome: Outcome) -> u8
         Outcome::Served => 0,
         Outcome::Refused(k) => k,
     }
-}
-
-// A case more, and one that differs more unless it agrees.
-pub fn counted(tally: Tally, agrees: bool) -> Tally
-    requires { ⌜ (tally .cases + 1 < 2 ^ 64) × (tally .differ + 1 < 2 ^ 64) ⌝ }
-    ensures counts { λ r. ⌜ r ≡ record { cases = tally .cases + 1; differ = cond agrees (tally .differ) (tally .differ + 1) } ⌝ }
-    ensures bounds { λ r. ⌜ (r .cases ≤ tally .cases + 1) × (r .differ ≤ tally .differ + 1) ⌝ }
-{
-    let more = if agrees { 0 } else { 1 };
-    Tally {
-        cases: tally.cases + 1,
-        differ: tally.differ + more,
-    }
-}
-
-// The line that a program prints. The gate holds it to the program's stdout; no contract can speak of what was written.
-pub fn print(tally: Tally)
-    ensures { λ _. ⊤ₛ }
-{
-    io::print_decimal(STDOUT_FILENO, tally.cases);
-    io::write_all(STDOUT_FILENO, b" cases, ");
-    io::print_decimal(STDOUT_FILENO, tally.differ);
-    io::write_all(STDOUT_FILENO, b" differ\n");
 }

@@ -1,29 +1,24 @@
--- Part codes and words: what each code and each byte names.
+-- Part codes: what each code names. Parts carry the paper's numbers, from 1.
 use mathlib.Core.Path.{_≡_, refl, _∙_, ap}
 use mathlib.Core.Bool.{Bool, true, false, cond}
 use mathlib.Core.Logic.{_⊎_, inl, inr}
-use mathlib.Core.List.{[], _∷_}
 use mathlib.Core.Option.{Option, none, some}
 use Prim.Native.Nat.{ℕ, zero, suc, _+_, _-_, _≤_, _<_, min}
 use native.Mathlib.Omega.{arith}
 use lib.Dec.{eqb}
-use borrow.Author.Tests.{eqb-true, ne-eqb, lt-ltb, le-ltb}
+use borrow.Author.Tests.{ne-eqb, lt-ltb, le-ltb}
 use Rattle.model.specs.declared.Part.{Part}
 use Rattle.model.specs.declared.Part.the-variants.{Generator, GeneratorBreaker, BusBreaker}
-use Rattle.model.specs.declared.Word.{Word}
-use Rattle.model.specs.declared.Word.the-variants.{Fit, StuckOff, StuckOpen, StuckClosed}
 use Rattle.model.specs.Lists.{first}
-use Rattle.model.specs.Values.{number, index, firstCode, partCode, wordNumber}
+use Rattle.model.specs.Values.{number, index, firstCode, partCode}
 use Rattle.model.specs.Plant.{largest, parts, InRing}
-use Rattle.model.specs.Reports.{partNamed, wordNamed}
+use Rattle.model.specs.Reports.{partNamed}
 use Rattle.model.specs.Refusals.{notOfRing}
 use Rattle.model.specs.Laws.Tests.{dec-lt}
-use Rattle.model.specs.Laws.Lists.{first-at, first-none}
+use Rattle.model.specs.Laws.Lists.{first-none}
 use Rattle.model.specs.Laws.Parts.{parts-at, code-only}
 use Rattle.model.specs.Laws.Reports.{named-code}
 use Rattle.components.specs.Tests.{is-true, is-false}
-
--- ---- parts
 
 -- the code of a part of the ring names it, however large the ring is said to be
 code-names : (n : ℕ) (p : Part) → InRing (min n largest) p → partNamed n (partCode p) ≡ some p
@@ -107,30 +102,3 @@ code-reads n p h = go (dec-lt largest (number p))
     go : (largest < number p) ⊎ (number p ≤ largest) → partNamed n (partCode p) ≡ ofRing n p
     go (inl l) = rw (lt-ltb (min n largest) (number p) (omega arith), le-ltb (number p) 1 (h .0)) (outside p h l)
     go (inr l) = code-of-ring n p (h .0, l)
-
--- ---- words
-
--- a word's number names it
-pub number-names : (w : Word) → wordNamed (wordNumber w) ≡ some w
-unfolding wordNamed first
-number-names Fit = refl
-number-names StuckOff = refl
-number-names StuckOpen = refl
-number-names StuckClosed = refl
-
--- a byte names the word that has it for its number
-pub word-named : (v : ℕ) (w : Word) → wordNamed v ≡ some w → wordNumber w ≡ v
-unfolding wordNamed
-word-named v w e = eqb-true (wordNumber w) v (first-at (λ u. eqb (wordNumber u) v) (Fit ∷ StuckOff ∷ StuckOpen ∷ StuckClosed ∷ []) w e .1)
-
--- a number above those of the words names none
-pub no-word : (v : ℕ) → 3 < v → wordNamed v ≡ none
-unfolding wordNamed
-no-word v h = first-none (λ u. eqb (wordNumber u) v) (Fit ∷ StuckOff ∷ StuckOpen ∷ StuckClosed ∷ [])
-    (λ u m. ne-eqb (wordNumber u) v (other u))
-  where
-    other : (w : Word) → wordNumber w ≡ v → ⊥
-    other Fit e = omega arith
-    other StuckOff e = omega arith
-    other StuckOpen e = omega arith
-    other StuckClosed e = omega arith

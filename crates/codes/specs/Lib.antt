@@ -1,3 +1,3 @@
--- The laws of part codes and words.
+-- The laws of part codes.
 pub mod Codes
 pub mod Answers

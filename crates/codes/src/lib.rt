@@ -1,14 +1,12 @@
-// Part codes and words (document 01, "Fault file and reports"). Parts carry the paper's numbers, from 1; codes are counted from 0.
+// Part codes (document 01, "Fault file and reports"). Parts carry the paper's numbers, from 1; codes are counted from 0.
 ghost use mathlib.Core.Path.{_≡_};
-ghost use Rattle.model.specs.Values.{number, index, firstCode, partCode, wordNumber, partValues, wordValues};
-ghost use Rattle.model.specs.Reports.{partNamed, wordNamed};
+ghost use Rattle.model.specs.Values.{number, index, firstCode, partCode, partValues};
+ghost use Rattle.model.specs.Reports.{partNamed};
 ghost use Rattle.model.specs.Refusals.{notOfRing};
-ghost use Rattle.model.specs.Answers.{partAnswer, codeValues, wordAnswer, byteValues};
+ghost use Rattle.model.specs.Answers.{partAnswer, codeValues};
 ghost use Rattle.codes.specs.Codes.{ofRing};
 use model::Part;
 use model::PartAnswer;
-use model::Word;
-use model::WordAnswer;
 
 // The number of a part among those of its kind.
 fn part_number(part: Part) -> u8
@@ -54,20 +52,6 @@ pub fn part_of(code: u8, n: u8) -> PartAnswer
     }
 }
 
-// "Words: 0 fit again, 1 stuck off (generators), 2 stuck open, 3 stuck closed (breakers)."
-pub fn word_of(byte: u8) -> WordAnswer
-    ensures answer { λ r. ⌜ r ≡ wordAnswer (wordNamed byte) ⌝ }
-    ensures values { λ r. ⌜ wordValues r ≡ byteValues byte ⌝ }
-{
-    match byte {
-        0 => WordAnswer::Named(Word::Fit),
-        1 => WordAnswer::Named(Word::StuckOff),
-        2 => WordAnswer::Named(Word::StuckOpen),
-        3 => WordAnswer::Named(Word::StuckClosed),
-        _ => WordAnswer::Refused(6),
-    }
-}
-
 // The index of a number: places are counted from 0.
 fn index_of(number: u8) -> u16
     ensures { λ r. ⌜ r ≡ index number ⌝ }
@@ -92,16 +76,4 @@ pub fn code_of(part: Part) -> u16
     ensures { λ r. ⌜ r ≡ partCode part ⌝ }
 {
     first_code(part) + index_of(part_number(part))
-}
-
-// The number of a word: undoes `word_of`.
-pub fn number_of(word: Word) -> u8
-    ensures { λ r. ⌜ r ≡ wordNumber word ⌝ }
-{
-    match word {
-        Word::Fit => 0,
-        Word::StuckOff => 1,
-        Word::StuckOpen => 2,
-        Word::StuckClosed => 3,
-    }
 }

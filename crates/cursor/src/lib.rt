@@ -49,11 +49,11 @@ fn first_line(ring: Ring, file: &[u8], out: &mut [u8]) -> RunPiece
 {
     match files::check_file(file) {
         FileAnswer::Refused(k) => {
-            let length = lines::refused_text(k, out);
+            let length = heads::refused_text(k, out);
             piece_of(Line { ring, length }, 1, false)
         }
         FileAnswer::Served(n, m) => {
-            let length = lines::header(n, m, out);
+            let length = heads::header(n, m, out);
             piece_of(Line { ring, length }, 1, true)
         }
     }

@@ -11,9 +11,9 @@ use Rattle.model.specs.Lists.{below, _∈_}
 use Rattle.model.specs.Values.{partCode}
 use Rattle.model.specs.Plant.{largest, InRing}
 use Rattle.model.specs.Sheet.{sheetOf, written}
-use Rattle.model.specs.Text.{ascii, decimal, spaced, busText, line, header, refusedText, lineRoom}
+use Rattle.model.specs.Text.{ascii, decimal, spaced, busText, line, lineRoom}
 use Rattle.model.specs.Laws.Lists.{below-length}
-use Rattle.text.specs.Numbers.{decimal-length}
+use Rattle.numbers.specs.Numbers.{decimal-length}
 use Rattle.text.specs.Spaced.{behindSpaces, behind-spaced}
 use Rattle.text.specs.Buses.{AllNamed, buses-length}
 use Rattle.text.specs.Operations.{phaseOf, opening-parts, closing-parts, phase-length}
@@ -146,18 +146,3 @@ module _ (bytes : List ℕ) (s : SheetBytes bytes) where
         closing-length,
         s .few,
       ))
-
-pub header-fits : (n m : ℕ) → n < 10000 → m < 10000 → length (header n m) ≤ lineRoom
-unfolding header ascii
-header-fits n m h l =
-    omega (
-      arith,
-      length-append (decimal n) (ascii " reports " ++ (decimal m ++ ascii "\n")),
-      length-append (decimal m) (ascii "\n"),
-      decimal-length 3 n h,
-      decimal-length 3 m l,
-    )
-
-pub refused-fits : (k : ℕ) → k < 10000 → length (refusedText k) ≤ lineRoom
-unfolding refusedText ascii
-refused-fits k h = omega (arith, length-append (decimal k) (ascii "\n"), decimal-length 3 k h)

@@ -24,7 +24,8 @@ use Rattle.model.specs.Refusals.{firstMet, notOfRing, wordOfOtherKind, generato
 use Rattle.model.specs.Answers.{partAnswer, wordAnswer, reportAt, reportValuesAt}
 use Rattle.model.specs.Laws.Tests.{dec}
 use Rattle.model.specs.Laws.Reports.{code-named}
-use Rattle.codes.specs.Codes.{ofRing, code-reads, word-named, number-names}
+use Rattle.codes.specs.Codes.{ofRing, code-reads}
+use Rattle.words.specs.Words.{word-named, number-names}
 
 -- conditions 6 and 7, of a part and a word
 unfoldable pub wordConditions : Part → Word → List (ℕ × Bool)

@@ -72,7 +72,7 @@ fn report_of(n: u8, code: u8, word: u8) -> ReportAnswer
 {
     match codes::part_of(code, n) {
         PartAnswer::Refused(k) => ReportAnswer::Refused(k),
-        PartAnswer::Named(part) => match codes::word_of(word) {
+        PartAnswer::Named(part) => match words::word_of(word) {
             WordAnswer::Refused(k) => ReportAnswer::Refused(k),
             WordAnswer::Named(word) => checked_report(n, Report { part, word }),
         },

@@ -33,7 +33,7 @@ fn with_word(health: Health, report: Report) -> Health
 {
     let part = report.part;
     let word = report.word;
-    let value = codes::number_of(word);
+    let value = words::number_of(word);
     let mut next = health;
     match part {
         Part::Generator(number) => {

@@ -17,7 +17,7 @@ use Rattle.model.specs.Plant.{largest}
 use Rattle.model.specs.Text.{ascii, decimal, choiceText, busText}
 use Rattle.model.specs.Laws.Tests.{dec-eq}
 use Rattle.model.specs.Laws.Lists.{map-at, below-lt, below-length}
-use Rattle.text.specs.Numbers.{marked, decimal-length, marked-length}
+use Rattle.numbers.specs.Numbers.{marked, decimal-length, marked-length}
 use Rattle.text.specs.Spaced.{behindSpaces, behind-one, behind-length}
 
 -- the text of bus k behind a space

@@ -1,5 +1,4 @@
--- What the texts of numbers, buses and operations are, and their lengths.
-pub mod Numbers
+-- What the texts of buses and operations are, and their lengths.
 pub mod Spaced
 pub mod Buses
 pub mod Operations

@@ -20,7 +20,7 @@ use Rattle.model.specs.Text.{ascii, decimal, spaced, kindName, partName, phaseT
 use Rattle.model.specs.Laws.Tests.{dec-eq}
 use Rattle.model.specs.Lists.{_∈_}
 use Rattle.model.specs.Laws.Parts.{index-suc}
-use Rattle.text.specs.Numbers.{marked, marked-length}
+use Rattle.numbers.specs.Numbers.{marked, marked-length}
 use Rattle.text.specs.Spaced.{behindSpaces, behind-spaced, behind-one}
 
 -- ---- definitions

@@ -9,10 +9,10 @@ ghost use Rattle.model.specs.Text.{choiceText, busText};
 ghost use Rattle.model.specs.Laws.Appended.{Appended};
 ghost use Rattle.text.specs.Spaced.{behindSpaces};
 ghost use Rattle.text.specs.Buses.{busBehindSpace, Named, AllNamed};
-use crate::numbers::append_digit;
-use crate::numbers::append_marked;
 use model::BusChoice;
 use model::Choice;
+use numbers::append_digit;
+use numbers::append_marked;
 
 // The generator that a choice names.
 fn source(choice: Choice) -> u8

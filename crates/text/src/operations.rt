@@ -8,7 +8,7 @@ ghost use Rattle.model.specs.Text.{ascii};
 ghost use Rattle.model.specs.Laws.Appended.{Appended};
 ghost use Rattle.text.specs.Spaced.{behindSpaces};
 ghost use Rattle.text.specs.Operations.{kindOf, sign as signOf, operationText, phaseOf};
-use crate::numbers::append_marked;
+use numbers::append_marked;
 
 // A part's kind by its code: `G`, `GB` or `BB`.
 fn append_kind(code: u8, out: &mut [u8], at: usize) -> usize

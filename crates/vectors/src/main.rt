@@ -3,7 +3,7 @@ ghost use mathlib.Core.Path.{_≡_};
 ghost use Prim.Native.Nat.{_≤_, _<_};
 ghost use lib.ListN.{length};
 ghost use Rattle.model.specs.Text.{lineRoom};
-use cases::Tally;
+use tally::Tally;
 
 // Whether the next stored bytes are ours.
 fn next_is(stored: i32, ours: &[u8], expected: &mut [u8]) -> bool
@@ -53,7 +53,7 @@ fn agrees(stored: i32, size: usize) -> bool
 }
 
 fn main() {
-    let stored = cases::stored();
+    let stored = tally::stored();
     let mut tally = Tally {
         cases: 0,
         differ: 0,
@@ -63,7 +63,7 @@ fn main() {
         if io::read_full(stored, &mut size) < 2 {
             break;
         }
-        tally = cases::counted(tally, agrees(stored, size_of(size[0], size[1])));
+        tally = tally::counted(tally, agrees(stored, size_of(size[0], size[1])));
     }
-    cases::print(tally);
+    tally::print(tally);
 }

@@ -1,8 +1,8 @@
 // Stored reckonings, held against the simulation's answers: see tests/make_vectors.py for the layout of a case.
-use cases::Tally;
 use model::BusFeed;
 use model::Feed;
 use model::FeedsAnswer;
+use tally::Tally;
 
 // Whether a bus's answer is the three bytes: 0 dark, 1 fed, 2 a clash, and the generators named.
 fn same_feed(bus: BusFeed, kind: u8, first: u8, second: u8) -> bool {
@@ -35,7 +35,7 @@ fn agrees(case: &[u8; 182]) -> bool {
 }
 
 fn main() {
-    let stored = cases::stored();
+    let stored = tally::stored();
     let mut tally = Tally {
         cases: 0,
         differ: 0,
@@ -45,7 +45,7 @@ fn main() {
         if io::read_full(stored, &mut case) < 182 {
             break;
         }
-        tally = cases::counted(tally, agrees(&case));
+        tally = tally::counted(tally, agrees(&case));
     }
-    cases::print(tally);
+    tally::print(tally);
 }

@@ -2,7 +2,6 @@
 // tests/make_vectors.py for the layout of a case.
 ghost use Prim.Native.Nat.{_≤_};
 ghost use lib.ListN.{length};
-use cases::Tally;
 use model::BusChoice;
 use model::Choice;
 use model::Part;
@@ -10,6 +9,7 @@ use model::Report;
 use model::Ring;
 use model::RingAnswer;
 use model::Word;
+use tally::Tally;
 
 // A record of a case: n, and its healths and commands from an index on.
 fn ring_of(case: &[u8; 288], n: u8, from: usize) -> Ring
@@ -121,7 +121,7 @@ fn agrees(stored: i32, case: &[u8; 288]) -> bool {
 }
 
 fn main() {
-    let stored = cases::stored();
+    let stored = tally::stored();
     let mut tally = Tally {
         cases: 0,
         differ: 0,
@@ -131,7 +131,7 @@ fn main() {
         if io::read_full(stored, &mut case) < 288 {
             break;
         }
-        tally = cases::counted(tally, agrees(stored, &case));
+        tally = tally::counted(tally, agrees(stored, &case));
     }
-    cases::print(tally);
+    tally::print(tally);
 }

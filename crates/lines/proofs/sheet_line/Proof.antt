@@ -6,7 +6,7 @@ use denote.Ref.{now}
 use lib.ListN.{length, set, length-set}
 use borrow.Author.Needs.{needs}
 use Rattle.model.specs.Text.{ascii}
-use Rattle.text.specs.Numbers.{decimal-length}
+use Rattle.numbers.specs.Numbers.{decimal-length}
 use Rattle.model.specs.Laws.Appended.{Appended, appended-one, appended-more, appended-all}
 use Rattle.text.specs.Buses.{buses-length}
 use Rattle.lines.specs.SheetLine.{sheetLine, line-parts, line-length}

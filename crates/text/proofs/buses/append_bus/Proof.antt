@@ -4,7 +4,7 @@ use native.Mathlib.Omega.{arith}
 use lib.ListN.{length-set}
 use borrow.Author.Needs.{needs}
 use Rattle.model.specs.Text.{ascii}
-use Rattle.text.specs.Numbers.{marked-length}
+use Rattle.numbers.specs.Numbers.{marked-length}
 use Rattle.model.specs.Laws.Appended.{appended-two, appended-more}
 use Rattle.text.proofs.buses.append_bus.Statement.{statement}
 use Rattle.text.proofs.buses.append_bus.Tie as tie

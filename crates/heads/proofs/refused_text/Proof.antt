@@ -7,9 +7,9 @@ use lib.ListN.{length, set, length-set}
 use borrow.Author.Needs.{needs}
 use Rattle.model.specs.Text.{ascii, refusedText}
 use Rattle.model.specs.Laws.Appended.{Appended, appended-one, appended-all}
-use Rattle.lines.specs.SheetLine.{refused-fits}
-use Rattle.lines.proofs.refused_text.Statement.{statement}
-use Rattle.lines.proofs.refused_text.Tie as tie
+use Rattle.heads.specs.Heads.{refused-fits}
+use Rattle.heads.proofs.refused_text.Statement.{statement}
+use Rattle.heads.proofs.refused_text.Tie as tie
 
 -- what was known at the entry
 abbrev start : tie.After-append-labelled → tie.Start

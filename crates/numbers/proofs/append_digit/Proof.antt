@@ -2,10 +2,10 @@
 use native.Mathlib.Omega.{arith}
 use lib.ListN.{length-set}
 use borrow.Author.Needs.{needs}
-use Rattle.text.specs.Numbers.{decimal-digit}
+use Rattle.numbers.specs.Numbers.{decimal-digit}
 use Rattle.model.specs.Laws.Appended.{appended-two}
-use Rattle.text.proofs.numbers.append_digit.Statement.{statement}
-use Rattle.text.proofs.numbers.append_digit.Tie as tie
+use Rattle.numbers.proofs.append_digit.Statement.{statement}
+use Rattle.numbers.proofs.append_digit.Tie as tie
 
 returns : tie.Need-returns
 returns c = rw (decimal-digit (c .args .digit) (search needs)) (appended-two _ _ _ _)

@@ -1,8 +1,8 @@
 -- `append_labelled`: the number follows the text.
 use borrow.Author.Needs.{needs}
 use Rattle.model.specs.Laws.Appended.{appended-more}
-use Rattle.lines.proofs.append_labelled.Statement.{statement}
-use Rattle.lines.proofs.append_labelled.Tie as tie
+use Rattle.heads.proofs.append_labelled.Statement.{statement}
+use Rattle.heads.proofs.append_labelled.Tie as tie
 
 pub append-labelled-spec : {M : Type 1} → statement M
 append-labelled-spec =

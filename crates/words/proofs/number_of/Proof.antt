@@ -1,7 +1,7 @@
--- `codes::number_of` meets its contract.
+-- `words::number_of` meets its contract.
 use borrow.Author.Needs.{needs}
-use Rattle.codes.proofs.number_of.Statement.{statement}
-use Rattle.codes.proofs.number_of.Tie as tie
+use Rattle.words.proofs.number_of.Statement.{statement}
+use Rattle.words.proofs.number_of.Tie as tie
 
 pub number-of-spec : {M : Type 1} → statement M
 number-of-spec =

@@ -1,12 +1,12 @@
--- `cases::counted` meets its contract: each count by itself, the second by the two arms.
+-- `tally::counted` meets its contract: each count by itself, the second by the two arms.
 use mathlib.Core.Path.{ap₂}
 use mathlib.Core.Logic.{⊎-elim}
 use Prim.Native.Nat.{ℕ}
 use native.Mathlib.Omega.{arith}
 use borrow.Author.Needs.{needs}
-use Rattle.cases.specs.declared.Tally.{Tally}
-use Rattle.cases.proofs.counted.Statement.{statement}
-use Rattle.cases.proofs.counted.Tie as tie
+use Rattle.tally.specs.declared.Tally.{Tally}
+use Rattle.tally.proofs.counted.Statement.{statement}
+use Rattle.tally.proofs.counted.Tie as tie
 
 -- the tally of two counts
 abbrev of : ℕ → ℕ → Tally

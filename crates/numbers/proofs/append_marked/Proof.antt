@@ -3,10 +3,10 @@ use Prim.Native.Nat.{_-_, _/_, _%_}
 use native.Mathlib.Omega.{arith}
 use lib.ListN.{length-set}
 use borrow.Author.Needs.{needs}
-use Rattle.text.specs.Numbers.{marked-more}
+use Rattle.numbers.specs.Numbers.{marked-more}
 use Rattle.model.specs.Laws.Appended.{appended-byte, appended-more}
-use Rattle.text.proofs.numbers.append_marked.Statement.{statement}
-use Rattle.text.proofs.numbers.append_marked.Tie as tie
+use Rattle.numbers.proofs.append_marked.Statement.{statement}
+use Rattle.numbers.proofs.append_marked.Tie as tie
 
 returns-2 : tie.Need-returns-2
 returns-2 c =

@@ -3,10 +3,10 @@ use mathlib.Core.Path.{_≡_, refl}
 use Prim.Native.Nat.{_+_, _/_, _%_, _≤_}
 use native.Mathlib.Omega.{arith}
 use borrow.Author.Needs.{needs}
-use Rattle.text.specs.Numbers.{decimal-digit, decimal-more, marked-length}
+use Rattle.numbers.specs.Numbers.{decimal-digit, decimal-more, marked-length}
 use Rattle.model.specs.Laws.Appended.{appended-byte, appended-one}
-use Rattle.text.proofs.numbers.append_number.Statement.{statement}
-use Rattle.text.proofs.numbers.append_number.Tie as tie
+use Rattle.numbers.proofs.append_number.Statement.{statement}
+use Rattle.numbers.proofs.append_number.Tie as tie
 
 returns : tie.Need-returns
 returns c =

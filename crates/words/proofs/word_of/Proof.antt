@@ -1,9 +1,9 @@
--- `codes::word_of` meets its contract: each byte is the number of the word that it names.
+-- `words::word_of` meets its contract: each byte is the number of the word that it names.
 use native.Mathlib.Omega.{arith}
 use Rattle.model.specs.declared.Word.the-variants.{Fit, StuckOff, StuckOpen, StuckClosed}
-use Rattle.codes.specs.Answers.{word-of-number, word-above}
-use Rattle.codes.proofs.word_of.Statement.{statement}
-use Rattle.codes.proofs.word_of.Tie as tie
+use Rattle.words.specs.Words.{word-of-number, word-above}
+use Rattle.words.proofs.word_of.Statement.{statement}
+use Rattle.words.proofs.word_of.Tie as tie
 
 pub word-of-spec : {M : Type 1} → statement M
 word-of-spec =

@@ -3,7 +3,7 @@ ghost use Prim.Native.Nat.{_+_, _<_, _≤_};
 ghost use lib.ListN.{length};
 ghost use Rattle.model.specs.Text.{decimal};
 ghost use Rattle.model.specs.Laws.Appended.{Appended};
-ghost use Rattle.text.specs.Numbers.{marked};
+ghost use Rattle.numbers.specs.Numbers.{marked};
 
 // A digit, and the byte behind the number that it ends.
 pub fn append_digit(digit: u8, mark: u8, out: &mut [u8], at: usize) -> usize

@@ -7,11 +7,11 @@ use denote.Ref.{now}
 use lib.ListN.{length, set, length-set}
 use borrow.Author.Needs.{needs}
 use Rattle.model.specs.Text.{ascii, header}
-use Rattle.text.specs.Numbers.{decimal-length}
+use Rattle.numbers.specs.Numbers.{decimal-length}
 use Rattle.model.specs.Laws.Appended.{Appended, appended-one, appended-more, appended-all}
-use Rattle.lines.specs.SheetLine.{header-fits}
-use Rattle.lines.proofs.header.Statement.{statement}
-use Rattle.lines.proofs.header.Tie as tie
+use Rattle.heads.specs.Heads.{header-fits}
+use Rattle.heads.proofs.header.Statement.{statement}
+use Rattle.heads.proofs.header.Tie as tie
 
 -- what was known at the entry, and after the first call
 abbrev start : tie.After-append-labelled → tie.Start

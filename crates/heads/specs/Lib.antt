@@ -1,0 +1,2 @@
+-- The laws of a run's first line.
+pub mod Heads
