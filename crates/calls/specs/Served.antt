@@ -28,7 +28,7 @@ use Rattle.theory.specs.Proofs.Choosing.{chosen-ends}
 use Rattle.demands.specs.Proofs.Operations.{opening-at, closing-at}
 use Rattle.demands.specs.Statements.Records.{started}
 use Rattle.demands.specs.Theorems.Records.{step-good, made-good}
-use Rattle.text.specs.Buses.{AllNamed, Named}
+use Rattle.buses.specs.Buses.{AllNamed, Named}
 use Rattle.lines.specs.SheetLine.{SheetBytes, sheetLine, sheet-is, sheet-line}
 use Rattle.calls.specs.Lines.{Shown}
 

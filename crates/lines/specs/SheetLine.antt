@@ -14,9 +14,9 @@ use Rattle.model.specs.Sheet.{sheetOf, written}
 use Rattle.model.specs.Text.{ascii, decimal, spaced, busText, line, lineRoom}
 use Rattle.model.specs.Laws.Lists.{below-length}
 use Rattle.numbers.specs.Numbers.{decimal-length}
-use Rattle.text.specs.Spaced.{behindSpaces, behind-spaced}
-use Rattle.text.specs.Buses.{AllNamed, buses-length}
-use Rattle.text.specs.Operations.{phaseOf, opening-parts, closing-parts, phase-length}
+use Rattle.model.specs.Laws.Spaced.{behindSpaces, behind-spaced}
+use Rattle.buses.specs.Buses.{AllNamed, buses-length}
+use Rattle.operations.specs.Operations.{phaseOf, opening-parts, closing-parts, phase-length}
 
 -- ---- definitions
 

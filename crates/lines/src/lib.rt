@@ -7,12 +7,12 @@ ghost use lib.ListN.{length};
 ghost use Rattle.model.specs.Sheet.{written};
 ghost use Rattle.model.specs.Text.{lineRoom};
 ghost use Rattle.model.specs.Laws.Appended.{Appended};
-ghost use Rattle.text.specs.Buses.{AllNamed};
+ghost use Rattle.buses.specs.Buses.{AllNamed};
 ghost use Rattle.lines.specs.SheetLine.{openingText, closingText, openingSize, closingSize, sheetLine, SheetBytes};
+use buses::append_buses;
 use model::BusChoice;
 use numbers::append_number;
-use text::buses::append_buses;
-use text::operations::append_phase;
+use operations::append_phase;
 
 // "the first wave; the second.": a sheet has its sizes, then the codes of both phases, then their commands.
 fn append_phases(sheet: &[u8], out: &mut [u8], at: usize) -> usize

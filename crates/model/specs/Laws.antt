@@ -8,3 +8,4 @@ pub mod Reports
 pub mod Refusals
 pub mod Appended
 pub mod Answers
+pub mod Spaced

@@ -1,5 +1,4 @@
 -- The laws of the reckoning.
-pub mod Walk
 pub mod Feeders
 pub mod Buses
 pub mod Answer

@@ -1,11 +1,9 @@
 // The plant reckoning of document 01: who feeds each bus, by the health and the commands of the parts.
 // Buses, generators and breakers are indices from 0 here, the paper's numbers less 1; an answer names numbers.
 ghost use mathlib.Core.Path.{_≡_};
-ghost use mathlib.Core.Bool.{_&&_};
 ghost use Prim.Native.Nat.{_≤_, _<_};
-ghost use Rattle.model.specs.Lists.{allOf};
 ghost use Rattle.model.specs.Values.{outcomeNumber, feedValues};
-ghost use Rattle.model.specs.Plant.{fit, closed, up, arc, connected as connectedBuses, busBreakerClosed, feeds as feedsOf, busFeed};
+ghost use Rattle.model.specs.Plant.{busFeed};
 ghost use Rattle.model.specs.Reports.{places, healthOf, commandsOf};
 ghost use Rattle.model.specs.Refusals.{feedsRefusal};
 ghost use Rattle.model.specs.Answers.{feedsAnswer, busValues};
@@ -18,63 +16,6 @@ use model::Feed;
 use model::FeedsAnswer;
 use model::Health;
 use model::Outcome;
-use model::STUCK_CLOSED;
-use model::STUCK_OPEN;
-
-// "A generator is running when it is fit and ordered on"
-fn is_running(health: u8, command: bool) -> bool
-    ensures { λ r. ⌜ r ≡ fit health && command ⌝ }
-{
-    let runs = components::fit_generator(health);
-    runs && command
-}
-
-// "A fit part does what it was last ordered; a stuck part ignores orders.": whether a breaker is closed is judged here
-// alone.
-fn is_closed(health: u8, command: bool) -> bool
-    ensures { λ r. ⌜ r ≡ closed health command ⌝ }
-{
-    health == STUCK_CLOSED || (health != STUCK_OPEN && command)
-}
-
-// Whether every bus breaker met from bus a to bus b through rising bus numbers is closed.
-fn arc_closed(n: usize, health: Health, commands: Commands, a: usize, b: usize) -> bool
-    requires from { ⌜ a < n ⌝ }
-    requires to { ⌜ b < n ⌝ }
-    requires size { ⌜ n ≤ 20 ⌝ }
-    ensures { λ r. ⌜ r ≡ allOf (busBreakerClosed (healthOf health) (commandsOf commands)) (arc n a (up n a b)) ⌝ }
-{
-    let mut i = a;
-    while i != b {
-        if !is_closed(health.bus_breakers[i], commands.bus_breakers[i]) {
-            return false;
-        }
-        i = components::next(n, i);
-    }
-    true
-}
-
-// "Two buses are joined when closed bus breakers lead from one to the other; a bus is joined to itself."
-fn connected(n: usize, health: Health, commands: Commands, a: usize, b: usize) -> bool
-    requires from { ⌜ a < n ⌝ }
-    requires to { ⌜ b < n ⌝ }
-    requires size { ⌜ n ≤ 20 ⌝ }
-    ensures { λ r. ⌜ r ≡ connectedBuses n (busBreakerClosed (healthOf health) (commandsOf commands)) a b ⌝ }
-{
-    arc_closed(n, health, commands, a, b) || arc_closed(n, health, commands, b, a)
-}
-
-// "it feeds every bus joined to its own while its generator breaker is closed": whether generator g feeds bus b.
-fn feeds_bus(n: usize, health: Health, commands: Commands, b: usize, g: usize) -> bool
-    requires bus { ⌜ b < n ⌝ }
-    requires generator { ⌜ g < n ⌝ }
-    requires size { ⌜ n ≤ 20 ⌝ }
-    ensures { λ r. ⌜ r ≡ feedsOf n (healthOf health) (commandsOf commands) b g ⌝ }
-{
-    is_running(health.generators[g], commands.generators[g])
-        && (is_closed(health.generator_breakers[g], commands.generator_breakers[g])
-            && connected(n, health, commands, g, b))
-}
 
 // "For each bus its answer is one of three: dark, fed by one generator, or a clash that names the two lowest generators
 // feeding it.": the answer with one feeding generator more, whose number is higher than those before.
@@ -96,7 +37,7 @@ fn bus_feed(n: usize, health: Health, commands: Commands, b: usize) -> Feed
 {
     let mut feed = Feed::Dark;
     for g in 0..n {
-        if feeds_bus(n, health, commands, b, g) {
+        if feeding::feeds_bus(n, health, commands, b, g) {
             feed = with_feeder(feed, (g + 1) as u8);
         }
     }

@@ -1,60 +1,7 @@
-// The ring state (document 01: ring record) that is refused by 9: what every call that takes one checks first. Places of arrays are
-// indices from 0.
+// The ring state (document 01: ring record) that is refused by 9: what every call that takes one checks first.
 ghost use mathlib.Core.Path.{_≡_};
-ghost use mathlib.Core.Bool.{not, _||_};
-ghost use Prim.Native.Nat.{_≤_};
-ghost use Rattle.model.specs.Plant.{fit};
-ghost use Rattle.model.specs.Reports.{healthOf, commandsOf};
-ghost use Rattle.model.specs.Refusals.{activeAbove, badRecord};
-ghost use Rattle.records.specs.Records.{anyDiffer};
-use model::Commands;
-use model::FIT;
-use model::Health;
+ghost use Rattle.model.specs.Refusals.{badRecord};
 use model::Ring;
-
-// "not fit or not ordered off or open"
-fn is_active(health: u8, command: bool) -> bool
-    ensures { λ r. ⌜ r ≡ not (fit health) || command ⌝ }
-{
-    health != FIT || command
-}
-
-// 9: "a part above n is not fit or not ordered off or open"
-fn active_above(n: usize, health: Health, commands: Commands) -> bool
-    requires { ⌜ n ≤ 20 ⌝ }
-    ensures { λ r. ⌜ r ≡ activeAbove n (healthOf health) (commandsOf commands) ⌝ }
-{
-    for i in n..20 {
-        if is_active(health.generators[i], commands.generators[i]) {
-            return true;
-        }
-        if is_active(health.generator_breakers[i], commands.generator_breakers[i]) {
-            return true;
-        }
-        if is_active(health.bus_breakers[i], commands.bus_breakers[i]) {
-            return true;
-        }
-    }
-    false
-}
-
-// Whether a part has another command in one than in the other.
-fn differ(standing: Commands, planned: Commands) -> bool
-    ensures { λ r. ⌜ r ≡ anyDiffer (commandsOf standing) (commandsOf planned) ⌝ }
-{
-    for i in 0..20 {
-        if standing.generators[i] != planned.generators[i] {
-            return true;
-        }
-        if standing.generator_breakers[i] != planned.generator_breakers[i] {
-            return true;
-        }
-        if standing.bus_breakers[i] != planned.bus_breakers[i] {
-            return true;
-        }
-    }
-    false
-}
 
 // "In a record, number 9 is met when n is outside 3 to 20, a health is not one of its part's kind, a part above n is not fit or not
 // ordered off or open, or the standing orders differ from those the health calls for."
@@ -67,9 +14,9 @@ pub fn bad_record(ring: Ring) -> bool
     if components::health_outside(20, ring.health) {
         return true;
     }
-    if active_above(ring.n as usize, ring.health, ring.commands) {
+    if standing::active_above(ring.n as usize, ring.health, ring.commands) {
         return true;
     }
     let planned = planner::plan(ring.n, ring.health);
-    differ(ring.commands, planned.commands)
+    standing::differ(ring.commands, planned.commands)
 }

@@ -8,7 +8,7 @@ use borrow.Author.Needs.{needs}
 use Rattle.model.specs.Text.{ascii}
 use Rattle.numbers.specs.Numbers.{decimal-length}
 use Rattle.model.specs.Laws.Appended.{Appended, appended-one, appended-more, appended-all}
-use Rattle.text.specs.Buses.{buses-length}
+use Rattle.buses.specs.Buses.{buses-length}
 use Rattle.lines.specs.SheetLine.{sheetLine, line-parts, line-length}
 use Rattle.lines.proofs.sheet_line.Statement.{statement}
 use Rattle.lines.proofs.sheet_line.Tie as tie

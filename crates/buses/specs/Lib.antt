@@ -1,0 +1,2 @@
+-- The laws of the buses' texts.
+pub mod Buses

@@ -1,0 +1,2 @@
+-- The laws of a walk along an arc.
+pub mod Walk

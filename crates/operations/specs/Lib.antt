@@ -1,0 +1,2 @@
+-- The laws of the operations' texts.
+pub mod Operations

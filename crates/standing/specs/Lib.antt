@@ -1,0 +1,2 @@
+-- The laws of the standing commands.
+pub mod Standing
