@@ -13,7 +13,7 @@ use Rattle.model.specs.Laws.Tests.{facts}
 use Rattle.model.specs.Laws.Sheet.{sheet-fits}
 use Rattle.model.specs.Laws.Appended.{appended-length, appended-front}
 use Rattle.phases.specs.Codes.{openingCodes, closingCodes}
-use Rattle.sheet.specs.Layout.{layout, sheet-layout, layout-length}
+use Rattle.layout.specs.Layout.{layout, sheet-layout, layout-length}
 use Rattle.sheet.specs.Writing.{write-refused, write-served}
 use Rattle.sheet.proofs.write.Statement.{statement}
 use Rattle.sheet.proofs.write.Tie as tie

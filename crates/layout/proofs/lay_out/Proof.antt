@@ -1,4 +1,4 @@
--- `sheet::lay_out` meets its contract: sizes, codes and commands follow one another.
+-- `layout::lay_out` meets its contract: sizes, codes and commands follow one another.
 use mathlib.Core.Path.{_≡_, refl}
 use mathlib.Core.List.{[], _∷_}
 use Prim.Native.Nat.{_+_, _-_}
@@ -8,9 +8,9 @@ use lib.ListN.{length, set, take, length-set}
 use lib.Seq.{length-take-le}
 use borrow.Author.Needs.{needs}
 use Rattle.model.specs.Laws.Appended.{Appended, appended-more}
-use Rattle.sheet.specs.Layout.{laid-out}
-use Rattle.sheet.proofs.lay_out.Statement.{statement}
-use Rattle.sheet.proofs.lay_out.Tie as tie
+use Rattle.layout.specs.Layout.{laid-out}
+use Rattle.layout.proofs.lay_out.Statement.{statement}
+use Rattle.layout.proofs.lay_out.Tie as tie
 
 -- what was known before the first, second, third and last call
 abbrev first : tie.After-copy → tie.Start

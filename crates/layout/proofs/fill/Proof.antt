@@ -1,12 +1,12 @@
--- `sheet::fill` meets its contract. The loop's invariant: the command is stored in the places passed.
+-- `layout::fill` meets its contract. The loop's invariant: the command is stored in the places passed.
 use mathlib.Core.Path.{_≡_, sym}
 use Prim.Native.Nat.{_+_, _-_, _≤_}
 use native.Mathlib.Omega.{arith}
 use lib.ListN.{length, replicate, length-set, replicate-append-replicate}
 use borrow.Author.Needs.{needs}
 use Rattle.model.specs.Laws.Appended.{Appended, appended-none, appended-one}
-use Rattle.sheet.proofs.fill.Statement.{statement}
-use Rattle.sheet.proofs.fill.Tie as tie
+use Rattle.layout.proofs.fill.Statement.{statement}
+use Rattle.layout.proofs.fill.Tie as tie
 
 abbrev Inv-loop : tie.InvT-loop
 Inv-loop command from to bytes₀ i₀ bytes i =

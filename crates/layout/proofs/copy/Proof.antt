@@ -5,8 +5,8 @@ use denote.Ref.{now}
 use lib.ListN.{length, take}
 use lib.Seq.{length-take-le}
 use borrow.Author.Needs.{needs}
-use Rattle.sheet.proofs.copy.Statement.{statement}
-use Rattle.sheet.proofs.copy.Tie as tie
+use Rattle.layout.proofs.copy.Statement.{statement}
+use Rattle.layout.proofs.copy.Tie as tie
 
 -- the codes taken are as many as were asked for
 taken : (s : tie.Start) → length (take (s .args .count) (now (s .args .codes))) ≡ s .args .count

@@ -1,0 +1,2 @@
+-- The laws of the sheet's layout.
+pub mod Layout
