@@ -62,11 +62,6 @@ class Programs(unittest.TestCase):
         answer = run([sys.executable, "-B", path("tests", "make_vectors.py"), "--seed", "14"])
         self.assertEqual(answer.status, 2)
 
-    def test_the_simulation_by_its_own_tests(self):
-        answer = run([sys.executable, "-B", path("tests", "simulation", "selftest.py"), "--quick"], stdin=subprocess.DEVNULL)
-        self.assertEqual(answer.status, 0)
-        self.assertRegex(answer.out.decode(), r"all told: [0-9]+ good, 0 bad\s*$")
-
 
 if __name__ == "__main__":
     unittest.main()

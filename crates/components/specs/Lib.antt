@@ -1,3 +1,2 @@
--- The laws of the tests of sizes and healths.
+-- The laws of tests, by cases of what is tested.
 pub mod Tests
-pub mod Kinds

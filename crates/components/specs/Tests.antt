@@ -1,12 +1,12 @@
 -- What a function that answers a test has to show, by cases of what is tested: however the code words its test.
-use mathlib.Core.Path.{_≡_, sym, _∙_}
-use mathlib.Core.Bool.{Bool, true, false, not, _&&_, _||_, or-assoc}
+use mathlib.Core.Path.{_≡_, _∙_}
+use mathlib.Core.Bool.{Bool, true, false, not, _&&_, _||_}
 use mathlib.Core.Logic.{_⊎_, inl, inr, _≢_}
 use Prim.Native.Nat.{ℕ, _+_, _≤_, _<_}
 use native.Mathlib.Numerals.{add-one}
 use lib.Dec.{eqb}
 use borrow.Author.Tests.{eq-eqb, ne-eqb}
-use Rattle.model.specs.Plant.{smallest, largest, next, fit, stuckOff, stuckOpen, stuckClosed}
+use Rattle.model.specs.Plant.{smallest, largest, next}
 use Rattle.model.specs.Refusals.{sizeOutside}
 use Rattle.model.specs.Laws.Tests.{contra, dec, dec-lt, dec-eq}
 use Rattle.model.specs.Laws.Refusals.{outside, inside}
@@ -102,13 +102,3 @@ module _ (n : ℕ) (r : Bool) where
       go (inl l) m = rw (outside n (inl l)) (is-true r (low l))
       go (inr l) (inl m) = rw (outside n (inr m)) (is-true r (high m))
       go (inr l) (inr m) = rw (inside n l m) (is-false r (within l m))
-
--- "A generator is fit or stuck off.", "A breaker is fit, stuck open or stuck closed."
-module _ (h : ℕ) (r : Bool) where
-  pub generator-test : (h ≡ 0 → r ≡ false → ⊥) → (h ≡ 1 → r ≡ false → ⊥) → (h ≢ 0 → h ≢ 1 → r ≡ true → ⊥) → r ≡ fit h || stuckOff h
-  generator-test p q none = or-test h 0 _ r p (λ l. same-test h 1 r q (none l))
-
-  pub breaker-test : (h ≡ 0 → r ≡ false → ⊥) → (h ≡ 2 → r ≡ false → ⊥) → (h ≡ 3 → r ≡ false → ⊥) → (h ≢ 0 → h ≢ 2 → h ≢ 3 → r ≡ true → ⊥)
-      → r ≡ fit h || stuckOpen h || stuckClosed h
-  breaker-test p q s none =
-      or-test h 0 _ r p (λ l. or-test h 2 _ r q (λ m. same-test h 3 r s (none l m))) ∙ sym (or-assoc (fit h) (stuckOpen h) (stuckClosed h))

@@ -85,7 +85,7 @@ pub fn feeds(n: u8, health: Health, commands: Commands) -> FeedsAnswer
         return refused(2);
     }
     let size = n as usize;
-    if components::health_outside(size, health) {
+    if healths::health_outside(size, health) {
         return refused(9);
     }
     FeedsAnswer {

@@ -11,7 +11,7 @@ pub fn bad_record(ring: Ring) -> bool
     if components::size_outside(ring.n) {
         return true;
     }
-    if components::health_outside(20, ring.health) {
+    if healths::health_outside(20, ring.health) {
         return true;
     }
     if standing::active_above(ring.n as usize, ring.health, ring.commands) {

@@ -1,9 +1,9 @@
--- `components::breaker_health` meets its contract.
+-- `healths::breaker_health` meets its contract.
 use native.Mathlib.Omega.{arith}
 use Rattle.model.specs.Laws.Tests.{facts}
-use Rattle.components.specs.Tests.{breaker-test}
-use Rattle.components.proofs.breaker_health.Statement.{statement}
-use Rattle.components.proofs.breaker_health.Tie as tie
+use Rattle.healths.specs.Tests.{breaker-test}
+use Rattle.healths.proofs.breaker_health.Statement.{statement}
+use Rattle.healths.proofs.breaker_health.Tie as tie
 
 fit : tie.Need-returns
 fit c =

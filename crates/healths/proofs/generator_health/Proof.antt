@@ -1,9 +1,9 @@
--- `components::generator_health` meets its contract.
+-- `healths::generator_health` meets its contract.
 use native.Mathlib.Omega.{arith}
 use Rattle.model.specs.Laws.Tests.{facts}
-use Rattle.components.specs.Tests.{generator-test}
-use Rattle.components.proofs.generator_health.Statement.{statement}
-use Rattle.components.proofs.generator_health.Tie as tie
+use Rattle.healths.specs.Tests.{generator-test}
+use Rattle.healths.proofs.generator_health.Statement.{statement}
+use Rattle.healths.proofs.generator_health.Tie as tie
 
 fit : tie.Need-returns
 fit c =

@@ -1,4 +1,4 @@
--- `components::health_outside` meets its contract. The loop's invariant: each part of the places passed has a health of its kind.
+-- `healths::health_outside` meets its contract. The loop's invariant: each part of the places passed has a health of its kind.
 use mathlib.Core.Path.{sym, _∙_}
 use Prim.Native.Nat.{_≤_, _-_}
 use native.Mathlib.Omega.{arith}
@@ -8,9 +8,9 @@ use Rattle.model.specs.declared.Part.{Part}
 use Rattle.model.specs.Plant.{generator, generatorBreaker, busBreaker, healthOfKind, InRing}
 use Rattle.model.specs.Reports.{healthOf}
 use Rattle.model.specs.Laws.Parts.{ring-more}
-use Rattle.components.specs.Kinds.{OfKind, some-outside, none-outside}
-use Rattle.components.proofs.health_outside.Statement.{statement}
-use Rattle.components.proofs.health_outside.Tie as tie
+use Rattle.healths.specs.Kinds.{OfKind, some-outside, none-outside}
+use Rattle.healths.proofs.health_outside.Statement.{statement}
+use Rattle.healths.proofs.health_outside.Tie as tie
 
 abbrev Inv-loop : tie.InvT-loop
 Inv-loop n health i₀ i-end i = (i ≤ i-end) × ((p : Part) → InRing i p → OfKind health p)

@@ -1,0 +1,3 @@
+-- The laws of the tests of healths.
+pub mod Tests
+pub mod Kinds
