@@ -1,4 +1,4 @@
--- The rules of document 01 as definitions, a file a section, and their laws.
+-- The rules of document 01 as definitions, a file a section, then those of document 02, a file a Note, and their laws.
 pub mod Laws
 pub mod Lists
 pub mod Values
@@ -10,3 +10,5 @@ pub mod Reports
 pub mod Refusals
 pub mod Answers
 pub mod Text
+pub mod CutSets
+pub mod CutText

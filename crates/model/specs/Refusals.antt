@@ -89,6 +89,10 @@ badRecord ring =
     ∷ unplanned (ring .n) H C
     ∷ [])
 
+-- 10 (document 02): "a bus number outside 1 to n"
+unfoldable pub busOutside : ℕ → ℕ → Bool
+busOutside n bus = ltb bus 1 || ltb n bus
+
 -- the sheet from a ring's standing commands to those that its health calls for
 unfoldable pub nextSheet : Ring → List ℕ
 nextSheet ring = sheet (ring .n) (commandsOf (ring .commands)) (planned ring)

@@ -98,6 +98,12 @@ pub struct FeedsAnswer {
     pub buses: [BusFeed; 20],
 }
 
+// What the list of minimal cut sets answers: how many stand in the sheet.
+pub struct CutSetsAnswer {
+    pub outcome: Outcome,
+    pub count: u16,
+}
+
 // The part that a code names in a ring, or refusal 5.
 pub enum PartAnswer {
     Named(Part),
