@@ -8,4 +8,5 @@ pub mod Reports
 pub mod Refusals
 pub mod Appended
 pub mod Answers
+pub mod CutSets
 pub mod Spaced

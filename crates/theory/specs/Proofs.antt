@@ -2,3 +2,4 @@
 pub mod Geometry
 pub mod Paths
 pub mod Choosing
+pub mod Subsets

@@ -6,3 +6,4 @@ pub mod Interruption
 pub mod Locality
 pub mod Priorities
 pub mod Settled
+pub mod CutSets

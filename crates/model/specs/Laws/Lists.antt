@@ -17,6 +17,8 @@ use mathlib.Core.List.{
   List·Memᴰ·eq-of-singleton,
   Memᴰ·append-left,
   Memᴰ·append-right,
+  append-assoc,
+  append-nil,
 }
 use mathlib.Core.Option.{Option, none, some}
 use Prim.Native.Nat.{ℕ, zero, suc, _+_, _<_, _≤_}
@@ -110,6 +112,16 @@ flat-at {A} f (x ∷ xs) {y} m = go (λ r. flat-at f xs r) (List·Memᴰ·append
     go : (y ∈ flatMap f xs → (z : A) × (z ∈ xs) × (y ∈ f z)) → (y ∈ f x) ⊎ (y ∈ flatMap f xs) → (z : A) × (z ∈ x ∷ xs) × (y ∈ f z)
     go r (inl p) = (x, List·Memᴰ·head refl, p)
     go r (inr p) = let t = r p in (t .0, List·Memᴰ·tail (t .1), t .2)
+
+pub flat-append : {A B : Type 0} (f : A → List B) (xs ys : List A) → flatMap f (xs ++ ys) ≡ flatMap f xs ++ flatMap f ys
+unfolding flatMap
+flat-append f [] ys = refl
+flat-append f (x ∷ xs) ys = rw (flat-append f xs ys) (sym (append-assoc (f x) (flatMap f xs) (flatMap f ys)))
+
+-- one index more
+pub flat-below : {A : Type 0} (f : ℕ → List A) (k : ℕ) → flatMap f (below (suc k)) ≡ flatMap f (below k) ++ f k
+unfolding below flatMap
+flat-below f k = flat-append f (below k) (k ∷ []) ∙ ap (λ l. flatMap f (below k) ++ l) (append-nil (f k))
 
 -- ---- anyOf and allOf
 

@@ -11,7 +11,7 @@ use Rattle.model.specs.declared.Outcome.the-variants as outcome
 use Rattle.model.specs.Lists.{anyOf}
 use Rattle.model.specs.Values.{outcomeNumber, outcomeOf}
 use Rattle.model.specs.Plant.{smallest, largest}
-use Rattle.model.specs.Refusals.{sizeOutside, badRecord}
+use Rattle.model.specs.Refusals.{sizeOutside, badRecord, busOutside}
 use Rattle.model.specs.Laws.Tests.{never, or-none, or-right, dec, dec-eq}
 
 -- the outcome that has a number has that number
@@ -41,6 +41,11 @@ outside n (inr p) = or-right (ltb n 3) (ltb 20 n) (lt-ltb 20 n p)
 pub inside : (n : ℕ) → 3 ≤ n → n ≤ 20 → sizeOutside n ≡ false
 unfolding sizeOutside
 inside n p q = rw (le-ltb n 3, le-ltb 20 n)
+
+-- a bus of the ring
+pub bus-inside : (n bus : ℕ) → busOutside n bus ≡ false → (1 ≤ bus) × (bus ≤ n)
+unfolding busOutside
+bus-inside n bus e = let t = or-none (ltb bus 1) (ltb n bus) e in (ltb-false bus 1 (t .0), ltb-false n bus (t .1))
 
 -- ---- outcomes
 

@@ -1,0 +1,92 @@
+-- Laws of further faults and of the sheet of minimal cut sets.
+use mathlib.Core.Path.{_≡_, refl, sym, _∙_, ap}
+use mathlib.Core.Bool.{Bool, true, false, _||_, cond}
+use mathlib.Core.Logic.{_⊎_, inl, inr}
+use mathlib.Core.List.{List, [], _∷_, _++_, map, flatMap, List·Memᴰ·head, List·Memᴰ·tail, List·Memᴰ·not-nil, Memᴰ·cast}
+use Prim.Native.Nat.{ℕ, _+_, _*_}
+use native.Mathlib.Omega.{arith}
+use lib.ListN.{length, length-append}
+use lib.Seq.{length-take-le}
+use Rattle.model.specs.declared.Part.{Part}
+use Rattle.model.specs.Lists.{anyOf, _∈_}
+use Rattle.model.specs.Values.{partCode, samePart, wordNumber}
+use Rattle.model.specs.Plant.{PartHealth}
+use Rattle.model.specs.Reports.{reported}
+use Rattle.model.specs.CutSets.{faultWord, faultReport, withFaults, setBytes, cutSheet}
+use Rattle.model.specs.Laws.Tests.{contra, dec}
+use Rattle.model.specs.Laws.Lists.{all-cons, any-at, any-in, any-false}
+use Rattle.model.specs.Laws.Parts.{same-eq, same-refl}
+
+-- the health that its further fault gives a part
+abbrev pub fault : Part → ℕ
+fault p = wordNumber (faultWord p)
+
+either : (t : Bool) (x : ℕ) → cond t x x ≡ x
+either true x = refl
+either false x = refl
+
+-- a part of the set has its fault's health, any other its own
+pub after-faults : (H : PartHealth) (S : List Part) (p : Part) → withFaults H S p ≡ cond (anyOf (samePart p) S) (fault p) (H p)
+unfolding withFaults anyOf reported
+after-faults H [] p = refl
+after-faults H (q ∷ S) p = after-faults (reported H (faultReport q)) S p ∙ go (dec (samePart p q))
+  where
+    go : (samePart p q ≡ true) ⊎ (samePart p q ≡ false)
+        → cond (anyOf (samePart p) S) (fault p) (reported H (faultReport q) p) ≡ cond (samePart p q || anyOf (samePart p) S) (fault p) (H p)
+    go (inl e) = let z : fault q ≡ fault p = ap fault (sym (same-eq p q e)) in rw (e, z) (either (anyOf (samePart p) S) (fault p))
+    go (inr e) = rw e
+
+module _ (H : PartHealth) (S : List Part) (p : Part) where
+  pub failed : p ∈ S → withFaults H S p ≡ fault p
+  failed m = after-faults H S p ∙ rw (any-in (samePart p) m (same-refl p))
+
+  pub kept : (p ∈ S → ⊥) → withFaults H S p ≡ H p
+  kept out = after-faults H S p ∙ rw (any-false (samePart p) S (λ q m. go q m (dec (samePart p q))))
+    where
+      go : (q : Part) → q ∈ S → (samePart p q ≡ true) ⊎ (samePart p q ≡ false) → samePart p q ≡ false
+      go q m (inl e) = absurd (out (Memᴰ·cast (same-eq p q e) m))
+      go q m (inr e) = e
+
+-- a part is in a set, or it is not
+pub in-or-out : (p : Part) (S : List Part) → (p ∈ S) ⊎ (p ∈ S → ⊥)
+in-or-out p S = go (dec (anyOf (samePart p) S))
+  where
+    go : (anyOf (samePart p) S ≡ true) ⊎ (anyOf (samePart p) S ≡ false) → (p ∈ S) ⊎ (p ∈ S → ⊥)
+    go (inl e) = let t = any-at (samePart p) S e in inl (Memᴰ·cast (same-eq p (t .0) (t .2)) (t .1))
+    go (inr e) = inr (λ m. contra (any-in (samePart p) m (same-refl p)) e)
+
+-- two lists of parts have one in common, or none
+pub common-or-apart : (S T : List Part) → ((p : Part) × (p ∈ T) × (p ∈ S)) ⊎ ((p : Part) → p ∈ S → p ∈ T → ⊥)
+common-or-apart [] T = inr (λ p m k. List·Memᴰ·not-nil m)
+common-or-apart (q ∷ S) T = go (in-or-out q T) (common-or-apart S T)
+  where
+    go : (q ∈ T) ⊎ (q ∈ T → ⊥) → ((p : Part) × (p ∈ T) × (p ∈ S)) ⊎ ((p : Part) → p ∈ S → p ∈ T → ⊥)
+        → ((p : Part) × (p ∈ T) × (p ∈ q ∷ S)) ⊎ ((p : Part) → p ∈ q ∷ S → p ∈ T → ⊥)
+    go (inl m) r = inl (q, m, List·Memᴰ·head refl)
+    go (inr f) (inl t) = inl (t .0, t .1, List·Memᴰ·tail (t .2))
+    go (inr f) (inr g) = inr (all-cons (λ p. p ∈ T → ⊥) f g)
+
+-- the faults of two sets, one after the other
+pub faults-both : (H : PartHealth) (S T : List Part) → withFaults H (S ++ T) ≡ withFaults (withFaults H S) T
+unfolding withFaults
+faults-both H [] T = refl
+faults-both H (p ∷ S) T = faults-both (reported H (faultReport p)) S T
+
+-- ---- the sheet
+
+-- "three bytes a set"
+pub bytes-length : (S : List Part) → length (setBytes S) ≡ 3
+unfolding setBytes
+bytes-length S =
+    length-take-le 3 (map partCode S ++ (255 ∷ 255 ∷ 255 ∷ []))
+    (omega (arith, length-append (map partCode S) (255 ∷ 255 ∷ 255 ∷ [])))
+
+pub bytes-count : (Ss : List (List Part)) → length (flatMap setBytes Ss) ≡ 3 * length Ss
+unfolding flatMap
+bytes-count [] = refl
+bytes-count (S ∷ Ss) = omega (arith, length-append (setBytes S) (flatMap setBytes Ss), bytes-length S, bytes-count Ss)
+
+-- "a two-byte count .., then three bytes a set"
+pub cut-sheet-length : (Ss : List (List Part)) → length (cutSheet Ss) ≡ 2 + 3 * length Ss
+unfolding cutSheet
+cut-sheet-length Ss = omega (arith, bytes-count Ss)
