@@ -17,7 +17,7 @@ use Rattle.model.specs.Values.{number, samePart, wordNumber}
 use Rattle.model.specs.Plant.{largest}
 use Rattle.model.specs.Reports.{places, healthOf, healthPlaces, reported}
 use Rattle.model.specs.Laws.Tests.{dec-eq}
-use Rattle.model.specs.Laws.Parts.{is-places, places-of, Sized}
+use Rattle.model.specs.Laws.Parts.{is-places, places-of, Sized, arrayOf, withArray}
 
 -- what an array holds at each index once a value is stored at a number, from 1
 unfoldable pub withValue : List ℕ → ℕ → ℕ → ℕ → ℕ
@@ -41,18 +41,6 @@ module _ (l : List ℕ) (v : ℕ) (full : length l ≡ largest) where
       at : (i : ℕ) → i < largest → (i ≡ j) ⊎ (i ≢ j) → getD (set l j v) i 0 ≡ withValue l k v i
       at i b (inl f) = rw (f, eq-eqb (suc j) k e) (getD-set-same l j v 0 (omega arith))
       at i b (inr f) = rw (ne-eqb (suc i) k (λ z. f (omega arith))) (getD-set-other l j i v 0 f)
-
--- the array of a part's kind
-abbrev pub arrayOf : Health → Part → List ℕ
-arrayOf h (Generator k) = h .generators
-arrayOf h (GeneratorBreaker k) = h .«generator_breakers»
-arrayOf h (BusBreaker k) = h .«bus_breakers»
-
--- the health with another array for a part's kind
-abbrev pub withArray : Health → Part → List ℕ → Health
-withArray h (Generator k) l = record { generators = l; «generator_breakers» = h .«generator_breakers»; «bus_breakers» = h .«bus_breakers» }
-withArray h (GeneratorBreaker k) l = record { generators = h .generators; «generator_breakers» = l; «bus_breakers» = h .«bus_breakers» }
-withArray h (BusBreaker k) l = record { generators = h .generators; «generator_breakers» = h .«generator_breakers»; «bus_breakers» = l }
 
 -- the health after a report: its word's number is stored at its part
 module _ (h : Health) (sized : Sized h) (r : Report) where

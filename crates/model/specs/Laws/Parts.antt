@@ -262,3 +262,17 @@ unfolding healthPlaces
 places-held H =
     sym (health-held (healthPlaces H)
     (record { generators = places-length _; generator-breakers = places-length _; bus-breakers = places-length _ }))
+
+-- ---- one part of a health's arrays
+
+-- the array of a part's kind
+abbrev pub arrayOf : Health → Part → List ℕ
+arrayOf h (Generator k) = h .generators
+arrayOf h (GeneratorBreaker k) = h .«generator_breakers»
+arrayOf h (BusBreaker k) = h .«bus_breakers»
+
+-- the health with another array for a part's kind
+abbrev pub withArray : Health → Part → List ℕ → Health
+withArray h (Generator k) l = record { generators = l; «generator_breakers» = h .«generator_breakers»; «bus_breakers» = h .«bus_breakers» }
+withArray h (GeneratorBreaker k) l = record { generators = h .generators; «generator_breakers» = l; «bus_breakers» = h .«bus_breakers» }
+withArray h (BusBreaker k) l = record { generators = h .generators; «generator_breakers» = h .«generator_breakers»; «bus_breakers» = l }

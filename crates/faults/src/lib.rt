@@ -1,0 +1,57 @@
+// Further faults (document 02, Note 1) of the parts of a ring, by their places: in rising code, generators first, from 0 to 3n - 1.
+ghost use mathlib.Core.Path.{_≡_};
+ghost use mathlib.Core.List.{_∷_, []};
+ghost use Prim.Native.Nat.{_*_, _≤_, _<_};
+ghost use Rattle.model.specs.Values.{partCode};
+ghost use Rattle.model.specs.Reports.{healthOf};
+ghost use Rattle.model.specs.CutSets.{canFail, withFaults};
+ghost use Rattle.faults.specs.Places.{partAt};
+use model::Health;
+use model::STUCK_OFF;
+use model::STUCK_OPEN;
+
+// "A further fault is a fit generator going off, or a breaker not stuck open becoming so.": whether the part at place p can fail.
+pub fn can_fail(n: usize, health: Health, p: usize) -> bool
+    requires { ⌜ (p < 3 * n) × (n ≤ 20) ⌝ }
+    ensures { λ r. ⌜ r ≡ canFail (healthOf health) (partAt n p) ⌝ }
+{
+    if p < n {
+        return components::fit_generator(health.generators[p]);
+    }
+    if p < n + n {
+        return health.generator_breakers[p - n] != STUCK_OPEN;
+    }
+    health.bus_breakers[p - (n + n)] != STUCK_OPEN
+}
+
+// The health after the further fault of the part at place p.
+pub fn failed(n: usize, health: Health, p: usize) -> Health
+    requires { ⌜ (p < 3 * n) × (n ≤ 20) ⌝ }
+    ensures { λ r. ⌜ healthOf r ≡ withFaults (healthOf health) (partAt n p ∷ []) ⌝ }
+{
+    let mut after = health;
+    if p < n {
+        after.generators[p] = STUCK_OFF;
+        return after;
+    }
+    if p < n + n {
+        after.generator_breakers[p - n] = STUCK_OPEN;
+        return after;
+    }
+    after.bus_breakers[p - (n + n)] = STUCK_OPEN;
+    after
+}
+
+// The code of the part at place p: generators from 0 on, generator breakers from 32 on, bus breakers from 64 on.
+pub fn code_at(n: usize, p: usize) -> u8
+    requires { ⌜ (p < 3 * n) × (n ≤ 20) ⌝ }
+    ensures { λ r. ⌜ r ≡ partCode (partAt n p) ⌝ }
+{
+    if p < n {
+        return p as u8;
+    }
+    if p < n + n {
+        return (32 + (p - n)) as u8;
+    }
+    (64 + (p - (n + n))) as u8
+}
