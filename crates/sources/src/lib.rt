@@ -20,7 +20,7 @@ pub fn number_of(g: usize) -> u8
 }
 
 // Whether a generator may feed: it is fit, and its breaker is not stuck open.
-fn may_feed(generator: u8, breaker: u8) -> bool
+pub fn may_feed(generator: u8, breaker: u8) -> bool
     ensures { λ r. ⌜ r ≡ fit generator && not (stuckOpen breaker) ⌝ }
 {
     if components::fit_generator(generator) {

@@ -182,11 +182,11 @@ reach n C r k zero = []
 reach n C r k (suc m) = let rest = reach n C r (busBeside n r k) m in k ∷ cond (C (breakerBeside n r k)) rest []
 
 -- the arc from bus k to bus v on one side is closed, and how long it is
-abbrev Closed : ℕ → (ℕ → Bool) → Bool → ℕ → ℕ → Type 0
+abbrev pub Closed : ℕ → (ℕ → Bool) → Bool → ℕ → ℕ → Type 0
 Closed n C true k v = Arc n C k v
 Closed n C false k v = Arc n C v k
 
-abbrev steps : ℕ → Bool → ℕ → ℕ → ℕ
+abbrev pub steps : ℕ → Bool → ℕ → ℕ → ℕ
 steps n r k v = cond r (up n k v) (up n v k)
 
 pub breaker-lt : (n : ℕ) (r : Bool) (k : ℕ) → k < n → breakerBeside n r k < n

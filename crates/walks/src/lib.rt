@@ -26,7 +26,7 @@ pub fn up(n: usize, a: usize, b: usize) -> usize
 }
 
 // The bus breaker at bus k on its rising or its falling side.
-fn breaker_beside(n: usize, k: usize, rising: bool) -> usize
+pub fn breaker_beside(n: usize, k: usize, rising: bool) -> usize
     requires { ⌜ (k < n) × (n ≤ 20) ⌝ }
     ensures { λ r. ⌜ r ≡ breakerBeside n rising k ⌝ }
 {
@@ -34,7 +34,7 @@ fn breaker_beside(n: usize, k: usize, rising: bool) -> usize
 }
 
 // The bus behind that breaker.
-fn bus_beside(n: usize, k: usize, rising: bool) -> usize
+pub fn bus_beside(n: usize, k: usize, rising: bool) -> usize
     requires { ⌜ (k < n) × (n ≤ 20) ⌝ }
     ensures { λ r. ⌜ r ≡ busBeside n rising k ⌝ }
 {

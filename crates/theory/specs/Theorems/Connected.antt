@@ -50,7 +50,7 @@ module _ (n : ℕ) (C : ℕ → Bool) where
       (omega (arith, up-refl n a ha, up-next n a (next n a) ha (next-lt n a ha) ne, up-refl n (next n a) (next-lt n a ha))) in
       rw z c
 
-  arc-longer : (a b : ℕ) → a < n → b < n → C a ≡ true → a ≢ b → Arc n C (next n a) b → Arc n C a b
+  pub arc-longer : (a b : ℕ) → a < n → b < n → C a ≡ true → a ≢ b → Arc n C (next n a) b → Arc n C a b
   arc-longer a b ha hb c ne f i h l = go (dec-eq a i)
     where
       go : (a ≡ i) ⊎ (a ≢ i) → C i ≡ true

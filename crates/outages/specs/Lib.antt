@@ -1,0 +1,3 @@
+-- What a walk out from a bus meets, and how many faults leave the bus dark.
+pub mod Sides
+pub mod Least
