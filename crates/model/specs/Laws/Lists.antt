@@ -74,7 +74,7 @@ below-at (suc n) i d h = go (below-at n i d) (dec-eq i n)
 -- ---- map and flatMap
 
 -- the default of a mapped list is not read inside it
-map-within : {A B : Type 0} (f : A → B) (l : List A) (i : ℕ) (c : A) (d : B) → i < length l → getD (map f l) i d ≡ f (getD l i c)
+pub map-within : {A B : Type 0} (f : A → B) (l : List A) (i : ℕ) (c : A) (d : B) → i < length l → getD (map f l) i d ≡ f (getD l i c)
 map-within f [] i c d h = absurd (omega arith)
 map-within f (x ∷ xs) zero c d h = refl
 map-within f (x ∷ xs) (suc i) c d h = map-within f xs i c d (omega arith)
