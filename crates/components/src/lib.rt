@@ -1,9 +1,9 @@
 // What the plan, the plant reckoning, the files and the ring states share: the bus after another, whether a generator is fit, and the
-// test of a ring's size. Buses are indices from 0, the paper's numbers less 1.
+// tests of a ring's size and of a bus's number. Buses are indices from 0, the paper's numbers less 1.
 ghost use mathlib.Core.Path.{_≡_};
 ghost use Prim.Native.Nat.{_≤_, _<_};
 ghost use Rattle.model.specs.Plant.{fit, next as busAfter};
-ghost use Rattle.model.specs.Refusals.{sizeOutside};
+ghost use Rattle.model.specs.Refusals.{sizeOutside, busOutside};
 use model::FIT;
 
 // "BBn joins Bn and B1": the bus after bus k. An inner call: its callers know n and k.
@@ -28,4 +28,11 @@ pub fn size_outside(n: u8) -> bool
     ensures { λ r. ⌜ r ≡ sizeOutside n ⌝ }
 {
     n < 3 || 20 < n
+}
+
+// 10: "a bus number outside 1 to n"
+pub fn bus_outside(n: u8, bus: u8) -> bool
+    ensures { λ r. ⌜ r ≡ busOutside n bus ⌝ }
+{
+    bus < 1 || n < bus
 }

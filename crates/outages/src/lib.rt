@@ -7,7 +7,6 @@ ghost use Rattle.model.specs.Choosing.{plan};
 ghost use Rattle.model.specs.Reports.{healthOf};
 ghost use Rattle.outages.specs.Sides.{Met, sidePaths};
 ghost use Rattle.outages.specs.Least.{Least};
-
 use model::Health;
 use model::STUCK_OPEN;
 

@@ -79,7 +79,7 @@ loop-again c =
       behind-lt m,
       room,
       rw (m .bus-beside .ensures)
-      (walked-on _ _ _ _ (q .before .pre .0) _ _ (q .loop .inv .2) room (clear d) (judged (c .before) false (c .if2 .left))),
+          (walked-on _ _ _ _ (q .before .pre .0) _ _ (q .loop .inv .2) room (clear d) (judged (c .before) false (c .if2 .left))),
     )
 
 returns-3 : tie.Need-returns-3 Inv-loop μ-loop

@@ -1,0 +1,231 @@
+-- The search for the sets of one size: the next part is taken, with a fault fewer to spend, or passed by.
+use mathlib.Core.Path.{_≡_, refl, sym, _∙_, ap}
+use mathlib.Core.Bool.{Bool, true, false}
+use mathlib.Core.Logic.{_≢_}
+use mathlib.Core.List.{List, [], _∷_, _++_, map, flatMap, map-append, append-assoc, append-nil}
+use Prim.Native.Nat.{ℕ, zero, suc, _+_, _-_, _*_, _≤_, _<_}
+use native.Mathlib.Omega.{arith}
+use lib.ListN.{length, drop, length-map, length-append, length-drop}
+use Rattle.partsets.specs.declared.PartSet.{PartSet}
+use Rattle.model.specs.declared.Part.{Part}
+use Rattle.model.specs.Lists.{keep, _∈_}
+use Rattle.model.specs.Plant.{PartHealth, parts}
+use Rattle.model.specs.CutSets.{canFail, minimal, ofSize, setBytes}
+use Rattle.model.specs.Laws.Lists.{flat-append, map-at, keep-append, keep-length, keep-none}
+use Rattle.model.specs.Laws.Parts.{parts-length}
+use Rattle.model.specs.Laws.CutSets.{bytes-count}
+use Rattle.model.specs.Laws.Appended.{Appended, appended-none, appended-more}
+use Rattle.theory.specs.Proofs.Subsets.{size-at}
+use Rattle.faults.specs.Places.{partAt, parts-left, parts-ended}
+use Rattle.partsets.specs.Sets.{Held, withPlace, partsOf, held-more, parts-more}
+use Rattle.partsets.specs.Minimal.{NoneCounts}
+
+-- the sets that count among those of S and k more of the parts ps that can fail
+unfoldable pub found : ℕ → PartHealth → ℕ → List Part → List Part → ℕ → List (List Part)
+found n H b S ps k = keep (minimal n H b) (map (λ T. S ++ T) (ofSize k (keep (canFail H) ps)))
+
+-- what is found with a set held, from place p on
+abbrev pub foundFrom : ℕ → PartHealth → ℕ → PartSet → ℕ → ℕ → List (List Part)
+foundFrom n H b s p k = found n H b (partsOf n s) (drop p (parts n)) k
+
+-- ---- how many there can be
+
+-- the number of sets of k of m parts
+unfoldable pub most : ℕ → ℕ → ℕ
+most m zero = 1
+most zero (suc k) = 0
+most (suc m) (suc k) = most m k + most m (suc k)
+
+size-count : (k : ℕ) (ps : List Part) → length (ofSize k ps) ≡ most (length ps) k
+unfolding ofSize most
+size-count zero ps = refl
+size-count (suc k) [] = refl
+size-count (suc k) (p ∷ ps) =
+    omega (
+      arith,
+      length-append (map (λ T. p ∷ T) (ofSize k ps)) (ofSize (suc k) ps),
+      length-map (ofSize k ps) (λ T. p ∷ T),
+      size-count k ps,
+      size-count (suc k) ps,
+    )
+
+most-suc : (m k : ℕ) → most m k ≤ most (suc m) k
+unfolding most
+most-suc m zero = omega arith
+most-suc m (suc k) = omega arith
+
+most-add : (m d k : ℕ) → most m k ≤ most (m + d) k
+most-add m zero k = let z : m + 0 ≡ m = omega arith in rw z (omega arith)
+most-add m (suc d) k = let z : m + suc d ≡ suc (m + d) = omega arith in rw z (omega (arith, most-add m d k, most-suc (m + d) k))
+
+-- fewer parts have no more sets
+pub most-le : (m j k : ℕ) → m ≤ j → most m k ≤ most j k
+most-le m j k l = let z : m + (j - m) ≡ j = omega arith in rw z at (most-add m (j - m) k)
+
+found-count : (n : ℕ) (H : PartHealth) (b : ℕ) (S ps : List Part) (k m : ℕ) → length ps ≤ m → length (found n H b S ps k) ≤ most m k
+unfolding found
+found-count n H b S ps k m l =
+    omega (
+      arith,
+      keep-length (minimal n H b) (map (λ T. S ++ T) (ofSize k (keep (canFail H) ps))),
+      length-map (ofSize k (keep (canFail H) ps)) (λ T. S ++ T),
+      size-count k (keep (canFail H) ps),
+      most-le (length (keep (canFail H) ps)) m k (omega (arith, keep-length (canFail H) ps)),
+    )
+
+-- ---- the cases
+
+module _ (n : ℕ) (H : PartHealth) (b : ℕ) (S : List Part) where
+  -- no fault is left to spend
+  found-none : (ps : List Part) → minimal n H b S ≡ false → found n H b S ps 0 ≡ []
+  unfolding found ofSize keep
+  found-none ps e = rw (append-nil S, e)
+
+  found-one : (ps : List Part) → minimal n H b S ≡ true → found n H b S ps 0 ≡ S ∷ []
+  unfolding found ofSize keep
+  found-one ps e = rw (append-nil S, e)
+
+  -- no part is left
+  found-ended : (k : ℕ) → k ≢ 0 → found n H b S [] k ≡ []
+  unfolding found ofSize keep
+  found-ended zero z = absurd (z refl)
+  found-ended (suc k) z = refl
+
+  -- none counts
+  found-hopeless : (ps : List Part) (k : ℕ) → NoneCounts n H b S k → found n H b S ps k ≡ []
+  unfolding found
+  found-hopeless ps k f = keep-none (minimal n H b) (map (λ T. S ++ T) (ofSize k (keep (canFail H) ps))) go
+    where
+      go : (X : List Part) → X ∈ map (λ T. S ++ T) (ofSize k (keep (canFail H) ps)) → minimal n H b X ≡ false
+      go X m =
+          let t = map-at (λ T. S ++ T) (ofSize k (keep (canFail H) ps)) m in
+          rw (t .2) (f (t .0) (size-at k (keep (canFail H) ps) (t .1) .0))
+
+  -- the next part cannot fail
+  found-passed : (q : Part) (ps : List Part) (k : ℕ) → canFail H q ≡ false → found n H b S (q ∷ ps) k ≡ found n H b S ps k
+  unfolding found keep
+  found-passed q ps k e = rw e
+
+  -- it is taken, then passed by
+  found-both : (q : Part) (ps : List Part) (k : ℕ) → k ≢ 0 → canFail H q ≡ true
+      → found n H b S (q ∷ ps) k ≡ found n H b (S ++ (q ∷ [])) ps (k - 1) ++ found n H b S ps k
+  unfolding found ofSize keep
+  found-both q ps zero z e = absurd (z refl)
+  found-both q ps (suc k) z e =
+      let w : suc k - 1 ≡ k = omega arith in
+      rw (e, w)
+      (ap (keep (minimal n H b)) (map-append (λ T. S ++ T) (map (λ T. q ∷ T) (ofSize k F)) (ofSize (suc k) F))
+      ∙ keep-append (minimal n H b) (map (λ T. S ++ T) (map (λ T. q ∷ T) (ofSize k F))) (map (λ T. S ++ T) (ofSize (suc k) F))
+      ∙ ap (λ (l : List (List Part)). keep (minimal n H b) l ++ keep (minimal n H b) (map (λ T. S ++ T) (ofSize (suc k) F)))
+      (shift (ofSize k F)))
+    where
+      F : List Part
+      F = keep (canFail H) ps
+
+      shift : (Ts : List (List Part)) → map (λ T. S ++ T) (map (λ T. q ∷ T) Ts) ≡ map (λ T. (S ++ (q ∷ [])) ++ T) Ts
+      shift [] = refl
+      shift (T ∷ Ts) = rw (shift Ts, append-assoc S (q ∷ []) T)
+
+-- ---- for the code: a set is held, p is the next place, m parts are left and k faults to spend
+
+pub record Searching (n b : ℕ) (s : PartSet) (p m k : ℕ) : Type 0 where
+  pub bus : b < n
+  pub size : n ≤ 20
+  pub held : Held n s
+  pub rest : p + m ≡ 3 * n
+  pub spend : s .count + k ≤ 3
+
+most-falls : (m k : ℕ) → k ≢ 0 → m ≢ 0 → most m k ≡ most (m - 1) (k - 1) + most (m - 1) k
+unfolding most
+most-falls m zero z y = absurd (z refl)
+most-falls zero (suc k) z y = absurd (y refl)
+most-falls (suc m) (suc k) z y = let u : suc m - 1 ≡ m = omega arith in let v : suc k - 1 ≡ k = omega arith in rw (u, v)
+
+pub most-one : (m k : ℕ) → k ≡ 0 → most m k ≡ 1
+unfolding most
+most-one m k e = rw e
+
+-- what is stored at each return
+module _ (n : ℕ) (H : PartHealth) (b : ℕ) (s : PartSet) (p m k : ℕ) (l : List ℕ) (i : ℕ) where
+  abbrev Stored : List ℕ → ℕ → Type 0
+  Stored l′ j = Appended (flatMap setBytes (foundFrom n H b s p k)) l (3 * i) l′ (3 * j)
+
+  nothing-found : foundFrom n H b s p k ≡ [] → Stored l i
+  unfolding flatMap
+  nothing-found e = rw e (appended-none l (3 * i))
+
+  pub ends-none : {t : Bool} → k ≡ 0 → t ≡ minimal n H b (partsOf n s) → t ≡ false → Stored l i
+  ends-none z e f = nothing-found (rw z (found-none n H b (partsOf n s) (drop p (parts n)) (sym e ∙ f)))
+
+  pub ends-one : (l′ : List ℕ) {t : Bool} → k ≡ 0 → t ≡ minimal n H b (partsOf n s) → t ≡ true
+      → Appended (setBytes (partsOf n s)) l (3 * i) l′ (3 * (i + 1)) → Stored l′ (i + 1)
+  unfolding flatMap
+  ends-one l′ z e f a = rw (z, found-one n H b (partsOf n s) (drop p (parts n)) (sym e ∙ f), append-nil (setBytes (partsOf n s))) a
+
+  pub ends-parts : k ≢ 0 → m ≡ 0 → p + m ≡ 3 * n → Stored l i
+  ends-parts z e r = nothing-found (rw (parts-ended n p (omega arith)) (found-ended n H b (partsOf n s) k z))
+
+  pub ends-hopeless : NoneCounts n H b (partsOf n s) k → Stored l i
+  ends-hopeless f = nothing-found (found-hopeless n H b (partsOf n s) (drop p (parts n)) k f)
+
+  pub ends-passed : (l′ : List ℕ) (j : ℕ) → m ≢ 0 → p + m ≡ 3 * n → canFail H (partAt n p) ≡ false
+      → Appended (flatMap setBytes (foundFrom n H b s (p + 1) k)) l (3 * i) l′ (3 * j) → Stored l′ j
+  ends-passed l′ j y r e a =
+      rw (parts-left n p (omega arith), found-passed n H b (partsOf n s) (partAt n p) (drop (p + 1) (parts n)) k e) a
+
+  pub ends-both : (t : PartSet) (l′ l″ : List ℕ) (j h : ℕ) → length (s .places) ≡ 3 → s .count < 3 → k ≢ 0 → m ≢ 0 → p + m ≡ 3 * n
+      → canFail H (partAt n p) ≡ true → t ≡ withPlace s p
+      → Appended (flatMap setBytes (foundFrom n H b t (p + 1) (k - 1))) l (3 * i) l′ (3 * j)
+      → Appended (flatMap setBytes (foundFrom n H b s (p + 1) k)) l′ (3 * j) l″ (3 * h) → Stored l″ h
+  ends-both t l′ l″ j h full few z y r e is a c =
+      let a′ = rw (is, parts-more n s p full few) at a in
+      rw (
+        parts-left n p (omega arith),
+        found-both n H b (partsOf n s) (partAt n p) (drop (p + 1) (parts n)) k z e,
+        flat-append setBytes (found n H b (partsOf n s ++ (partAt n p ∷ [])) (drop (p + 1) (parts n)) (k - 1)) (foundFrom n H b s (p + 1) k),
+      )
+      (appended-more a′ c)
+
+-- so many more are found
+pub more-found : (n : ℕ) (H : PartHealth) (b : ℕ) (s : PartSet) (p m k : ℕ) (l l′ : List ℕ) (i j : ℕ) → p + m ≡ 3 * n
+    → Appended (flatMap setBytes (foundFrom n H b s p k)) l (3 * i) l′ (3 * j) → j ≤ i + most m k
+more-found n H b s p m k l l′ i j r a =
+    omega (
+      arith,
+      a .end,
+      bytes-count (foundFrom n H b s p k),
+      found-count n H b (partsOf n s) (drop p (parts n)) k m (omega (arith, length-drop p (parts n), parts-length n)),
+    )
+
+-- ---- the next call
+
+module _ {n b : ℕ} {s : PartSet} {p m k : ℕ} (g : Searching n b s p m k) where
+  pub taken-on : (t : PartSet) → length (s .places) ≡ 3 → k ≢ 0 → m ≢ 0 → t ≡ withPlace s p → Searching n b t (p + 1) (m - 1) (k - 1)
+  unfolding withPlace
+  taken-on t full z y e =
+      let few : s .count < 3 = omega (arith, g .spend) in
+      rw e
+      (record {
+        bus = g .bus;
+        size = g .size;
+        held = held-more n s p full few (g .held) (omega (arith, g .rest));
+        rest = omega (arith, g .rest);
+        spend = omega (arith, g .spend);
+      })
+
+  pub passed-on : m ≢ 0 → Searching n b s (p + 1) (m - 1) k
+  passed-on y = record { bus = g .bus; size = g .size; held = g .held; rest = omega (arith, g .rest); spend = g .spend }
+
+  pub at-part : m ≢ 0 → p < 3 * n
+  at-part y = omega (arith, g .rest)
+
+-- the room that it has
+module _ (m k i L : ℕ) (z : k ≢ 0) (y : m ≢ 0) (room : 3 * (i + most m k) ≤ L) where
+  pub room-taken : 3 * (i + most (m - 1) (k - 1)) ≤ L
+  room-taken = omega (arith, most-falls m k z y)
+
+  pub room-passed : 3 * (i + most (m - 1) k) ≤ L
+  room-passed = omega (arith, most-falls m k z y)
+
+  pub room-both : (j : ℕ) → j ≤ i + most (m - 1) (k - 1) → 3 * (j + most (m - 1) k) ≤ L
+  room-both j h = omega (arith, most-falls m k z y)
