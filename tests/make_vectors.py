@@ -2,7 +2,7 @@
 """Makes the stored cases of the vector programs from the simulation in tests/simulation, never from our own programs.
 
     tests/make_vectors.py                       writes crates/vectors*/data/cases and stdout, and what the gate runs
-                                                ringplant and ringtrace on
+                                                ringplant, ringtrace and ringcuts on
     tests/make_vectors.py --seed S --out DIR    writes other cases, DIR/vectors/cases and so on; a program of stored cases
                                                 reads the file `cases` of the folder that it is run in
 
@@ -13,8 +13,12 @@ plant   reckonings: n, 60 healths, 60 commands; then the number of the outcome a
 step    starts and steps with damaged records and short buffers: n (and then 255 for a start), 60 healths, 60 commands, the
         report's kind, number and word, the buffer's length; then the number of the outcome, the record, for each of 20 buses
         the letter and source of its choice, and the buffer, which held 170 in every byte.
+cuts    minimal cut sets, with damaged records, buses outside the ring and short buffers: n, 60 healths, 60 commands, the bus,
+        2 bytes length of the buffer, low byte first, at most 1024; then the number of the outcome, 2 bytes count, low byte
+        first, and the buffer, which held 170 in every byte.
 """
 import argparse
+import functools
 import itertools
 import os
 import random
@@ -160,6 +164,120 @@ def steps(rng):
     yield stepped(record, rs.Part(rs.BUS_BREAKER, 2), 2, 122)
 
 
+MOST_ROOM = 1024
+
+
+def health_with(faults):
+    """Healths of all sixty parts, fit but for those named."""
+    return {**{code: 0 for code in rs.ALL_CODES}, **{rs.code_of(kind, number): word for kind, number, word in faults}}
+
+
+@functools.lru_cache(maxsize=None)
+def near_ways(n, bus):
+    """A bus's ways, the shortest first."""
+    return sorted(rs.ways_in_order(n, bus), key=lambda way: len(way.parts))
+
+
+def dark_by_near_ways(n, bus, health, locks, rules):
+    """What dark_by_ways answers, sooner: the order in which a bus's ways are asked makes no difference."""
+    return not any(rs.way_could_carry(way, health, locks, rules) for way in near_ways(n, bus))
+
+
+def cut_sets(n, bus, health):
+    """The minimal cut sets of a bus, as lists of codes."""
+    return rs.darkening_sets(n, bus, health, rs.no_locks(), is_dark=dark_by_near_ways)
+
+
+def cut_case(record, bus, room):
+    """A case of the minimal cut sets."""
+    buffer = bytearray([170] * room)
+    number, count = rs.darkening(record, bus, buffer, is_dark=dark_by_near_ways)
+    before = bytes([record.n]) + places(record.health) + places(record.orders) + bytes([bus]) + room.to_bytes(2, "little")
+    return before + bytes([number]) + count.to_bytes(2, "little") + bytes(buffer)
+
+
+def started_cuts():
+    """Every bus of every started ring. The longest sheet, that of a ring of three, has 32 bytes."""
+    for n in range(3, 21):
+        record = rs.record_for(n)
+        yield from (cut_case(record, bus, 32) for bus in range(1, n + 1))
+
+
+def sheet_length(n, bus, health):
+    return len(rs.darkening_sheet(cut_sets(n, bus, health)))
+
+
+def settled_cuts():
+    """Rings with what Note 1 of document 02 speaks of, each with a buffer as long as its sheet, a byte shorter and longer, and others."""
+    many_off = [("G", g, 1) for g in range(1, 21) if g not in (1, 11, 20)]
+    for n, bus, faults, others in (
+            (3, 3, [], (0, 1, 2, 5, MOST_ROOM)),                                            # "has ten sets for B3"
+            (3, 3, [("G", 3, 1), ("BB", 2, 2), ("BB", 3, 2)], (0, 1, 2, 40)),               # "A bus already dark has one set"
+            (5, 2, [("G", g, 1) for g in range(1, 6)], ()),                                 # dark, with every breaker fit
+            (3, 3, [("BB", 2, 3), ("G", 3, 1), ("BB", 3, 2)], (0, 5)),                      # BB2 alone, stuck closed, can go open
+            (4, 4, [("GB", 4, 3), ("BB", 3, 3), ("BB", 4, 3)], (0,)),                       # so can these three
+            (20, 11, [("BB", 20, 2)] + many_off, ())):                                      # 264 sets: the high byte of the count
+        record = rs.record_for(n, health_with(faults))
+        sheet = sheet_length(n, bus, record.health)
+        yield from (cut_case(record, bus, room) for room in (*others, sheet - 1, sheet, sheet + 1))
+
+
+def damaged_records(n):
+    """Records of a ring below twenty, each bad in one of the ways that refusal 9 names."""
+    sizes = [0, 1, 2, n + 1, 21, 255]
+    of_no_kind = [("G", 1, 2), ("G", n, 3), ("G", 2, 4), ("GB", 1, 1), ("GB", n, 255), ("BB", 2, 1), ("BB", n, 4)]
+    faulty_above = [("G", n + 1, 1), ("GB", n + 1, 2), ("BB", 20, 3)]
+    called_otherwise = [("G", 1, 1), ("GB", 2, 2), ("BB", 1, 3)]
+    ordered_above = [("G", n + 1), ("GB", 20), ("BB", n + 1)]
+    missing, too_many = [("G", 1), ("GB", 2), ("BB", 2)], [("G", n), ("GB", n), ("BB", 1)]
+    for size in sizes:
+        record = rs.record_for(n)
+        record.n = size
+        yield record
+    for kind, number, health in of_no_kind + faulty_above + called_otherwise:
+        record = rs.record_for(n)
+        record.health[rs.code_of(kind, number)] = health
+        yield record
+    for kind, number in ordered_above + missing + too_many:
+        record = rs.record_for(n)
+        record.orders[rs.code_of(kind, number)] ^= True
+        yield record
+
+
+def refused_cuts():
+    """9 before 10 and 8, and 10 before 8: damaged records, and buses outside the ring, with long buffers and short ones."""
+    for n in (3, 6):
+        for record in damaged_records(n):
+            yield from (cut_case(record, bus, room) for bus, room in ((1, 40), (n, 0), (0, 40), (n + 1, 1), (255, 0)))
+    for n in (3, 6, 20):
+        record = rs.record_for(n)
+        yield from (cut_case(record, bus, room) for bus in (0, n + 1, 21, 128, 255) for room in (0, 1, 40))
+
+
+def worn_health(rng, n):
+    """Healths of a ring with few faults or many of each kind."""
+    shares = {kind: rng.choice([0, .1, .3, .8]) for kind in KINDS}
+    parts = [rs.part_of_code(code) for code in rs.codes_of_ring(n)]
+    return health_with([(p.kind, p.number, rng.choice(rs.HEALTHS_OF_KIND[p.kind])) for p in parts if rng.random() < shares[p.kind]])
+
+
+def worn_cuts(rng):
+    """Rings with any faults: buffers as long as the sheet, a byte shorter, longer and very short; now and then a record is damaged, or a
+    bus is outside the ring."""
+    for n in [3, 4, 5, 6, 7, 8] * 50 + [9, 10, 11, 12, 13] * 6 + [14, 16, 20]:
+        record, bus = rs.record_for(n, worn_health(rng, n)), rng.randint(1, n)
+        sheet = sheet_length(n, bus, record.health)
+        if rng.random() < .05:
+            record.orders[rng.choice(rs.ALL_CODES)] ^= True
+        if rng.random() < .05:
+            bus = rng.choice([0, n + 1, 255])
+        yield cut_case(record, bus, rng.choice([sheet, sheet, sheet, sheet - 1, sheet + rng.randint(1, 40), rng.randint(0, 4)]))
+
+
+def cuts(rng):
+    return itertools.chain(settled_cuts(), refused_cuts(), worn_cuts(rng))
+
+
 def feed_words(answer):
     """An answer of the reckoning as ringplant prints it."""
     words = {"dark": "dark", "fed": "G%d", "clash": "clash G%d G%d"}
@@ -208,6 +326,25 @@ def trace_text(data):
     return "".join(lines)
 
 
+def set_text(codes):
+    """A minimal cut set as ringcuts prints it."""
+    return " ".join(rs.name_of(code) for code in codes) or "-"
+
+
+def cuts_text(data):
+    """What ringcuts prints: the ring after the last report."""
+    file = rs.parse_fault_file(data)
+    if file.refusal:
+        return "refused %d\n" % file.refusal
+    record, lines = rs.Record(file.n), []
+    for code, word in zip(file.codes, file.words):
+        rs.take_word(record, rs.report_of(code, word), rs.BASE)
+    for bus in range(1, file.n + 1):
+        sets = cut_sets(file.n, bus, record.health)
+        lines += ["B%d %d" % (bus, len(sets))] + [set_text(codes) for codes in sets]
+    return "\n".join(lines) + "\n"
+
+
 def gate_plant():
     """A ring of twelve with a clash, buses fed by one generator and dark ones, over stuck breakers of both kinds."""
     health = {code: 0 for code in rs.ALL_CODES}
@@ -223,6 +360,9 @@ def gate_plant():
 # BB1 sticks closed between two running generators; BB2 sticks open; G1, G2 and G3 fail; BB2 comes back.
 GATE_TRACE = fault_file(3, [(64, 3), (65, 2), (0, 1), (1, 1), (2, 1), (65, 0)])
 
+# In a ring of six BB2 sticks closed, BB4 and BB5 stick open and G5 fails, so that B5 is dark; GB1 sticks open and comes back; G6 fails.
+GATE_CUTS = fault_file(6, [(65, 3), (67, 2), (32, 2), (68, 2), (4, 1), (32, 0), (5, 1)])
+
 
 def write(path, data):
     os.makedirs(os.path.dirname(path), exist_ok=True)
@@ -230,16 +370,17 @@ def write(path, data):
         out.write(data)
 
 
-def all_cases(seeds):
-    """The stored cases of each program."""
+def all_cases(seeds, started):
+    """The cases of each program; those of started rings are the same for all seeds."""
     yield "vectors", list(runs(random.Random(seeds[0])))
     yield "vectors_plant", list(plant(random.Random(seeds[1])))
     yield "vectors_step", list(steps(random.Random(seeds[2])))
+    yield "vectors_cuts", list(itertools.chain(started, cuts(random.Random(seeds[3]))))
 
 
 def stored_files():
     """The files that are stored below crates/, and their bytes."""
-    for crate, cases in all_cases([1, 2, 3]):
+    for crate, cases in all_cases([1, 2, 3, 4], started_cuts()):
         yield os.path.join(crate, "data", "cases"), b"".join(cases)
         yield os.path.join(crate, "stdout"), b"%d cases, 0 differ\n" % len(cases)
     n, health, commands = gate_plant()
@@ -247,6 +388,8 @@ def stored_files():
     yield os.path.join("ringplant", "stdout"), plant_text(n, health, commands).encode()
     yield os.path.join("ringtrace", "stdin"), GATE_TRACE
     yield os.path.join("ringtrace", "stdout"), trace_text(GATE_TRACE).encode()
+    yield os.path.join("ringcuts", "stdin"), GATE_CUTS
+    yield os.path.join("ringcuts", "stdout"), cuts_text(GATE_CUTS).encode()
 
 
 def store():
@@ -257,7 +400,7 @@ def store():
 
 def make_others(seed, folder):
     """Other cases, drawn by a seed."""
-    for crate, cases in all_cases(["%s %d" % (seed, k) for k in range(3)]):
+    for crate, cases in all_cases(["%s %d" % (seed, k) for k in range(4)], []):
         write(os.path.join(folder, crate, "cases"), b"".join(cases))
         print("%s: %d cases" % (crate, len(cases)))
 

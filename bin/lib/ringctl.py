@@ -24,22 +24,11 @@ def changes(run):
     return ("\n".join(shown) + "\n").encode()
 
 
-def hint(data):
-    """Words for a user whose readable lines do not begin as such."""
-    if data and all(byte in b"\t\r\n" or 32 <= byte < 127 for byte in data):
-        ringtools.say("ringctl", "this looks like text; readable lines begin with `ring N` or `#`")
-
-
 def run(arguments):
     options, path = ringtools.one_file(arguments, ("--changes",))
     data = ringtools.read_input(path)
-    output = ringtools.output_of("ringctl", faultlines.fault_file(data), "ringctl")
-    status = ringtools.status_of(output)
-    if status == ringtools.REFUSED:
-        hint(data if not ringtools.is_readable(data) else b"")
-    elif options:
-        output = changes(output)
-    ringtools.write_output(output)
+    output, status = ringtools.answer_of("ringctl", data, faultlines.fault_file(data))
+    ringtools.write_output(changes(output) if options and status == ringtools.SERVED else output)
     return status
 
 

@@ -86,6 +86,23 @@ def one_file(arguments, options=()):
     return given, files[0] if files and files[0] != "-" else None
 
 
+def option_value(arguments, option):
+    """The value of an option, given as `--bus B3` or `--bus=B3`, None where it is not given; and the other words."""
+    value, others, words = None, [], list(arguments)
+    while words:
+        word = words.pop(0)
+        name, equals, text = word.partition("=")
+        if name != option:
+            others.append(word)
+            continue
+        if value is not None:
+            raise Failure("%s is given twice" % option)
+        if not equals and not words:
+            raise Failure("behind %s its value is missing; --help shows the use" % option)
+        value = text if equals else words.pop(0)
+    return value, others
+
+
 def read_some(number, most):
     """Bytes until there are as many as asked for, or the input ends; its end is asked for once."""
     pieces, size = [], 0
@@ -191,6 +208,21 @@ def output_of(name, data, tool):
 def status_of(output):
     """The status that a program's output calls for."""
     return REFUSED if output.startswith(b"refused ") else SERVED
+
+
+def hint(name, data):
+    """Words for a user whose readable lines do not begin as such."""
+    if data and all(byte in b"\t\r\n" or 32 <= byte < 127 for byte in data):
+        say(name, "this looks like text; readable lines begin with `ring N` or `#`")
+
+
+def answer_of(name, data, file):
+    """What a program prints for a fault file, made of what was read or that itself, and the status that it calls for."""
+    output = output_of(name, file, name)
+    status = status_of(output)
+    if status == REFUSED and not is_readable(data):
+        hint(name, data)
+    return output, status
 
 
 if __name__ == "__main__":

@@ -60,6 +60,35 @@ def stored_runs():
         at = end + 1
 
 
+class CutCase:
+    """A stored case of the minimal cut sets."""
+
+    def __init__(self, data, at):
+        self.n, self.health, self.bus = data[at], data[at + 1:at + 61], data[at + 121]
+        self.room = int.from_bytes(data[at + 122:at + 124], "little")
+        self.number, self.count = data[at + 124], int.from_bytes(data[at + 125:at + 127], "little")
+        self.end = at + 127 + self.room
+        self.buffer = data[at + 127:self.end]
+
+    def sets(self):
+        """The sets in the sheet of a served case, as tuples of codes."""
+        triples = [self.buffer[2 + 3 * i:5 + 3 * i] for i in range(self.count)]
+        return [tuple(code for code in triple if code != 255) for triple in triples]
+
+    def file(self):
+        """A fault file that makes the health of the record: a report for each part that is not fit."""
+        return make_vectors.fault_file(self.n, [(code, word) for code, word in zip(ringsim.ALL_CODES, self.health) if word])
+
+
+def stored_cuts():
+    """The stored cases of the minimal cut sets, as the simulation answered them."""
+    data, at = read("crates", "vectors_cuts", "data", "cases"), 0
+    while at < len(data):
+        case = CutCase(data, at)
+        yield case
+        at = case.end
+
+
 class ToolCase(unittest.TestCase):
     """Tests of a command: each has a status, and never a traceback."""
 

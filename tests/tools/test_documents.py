@@ -43,17 +43,29 @@ class Commands(unittest.TestCase):
         shown = re.search(r"((?:    .*\n)+)", text_of("README.md").split("The run is\n")[1]).group(1)
         self.assertEqual(re.sub("^    ", "", shown, flags=re.M).encode(), tool("ringctl", path("examples", "bus-breaker-open.txt")).out)
 
+    def test_the_sets_in_the_readme(self):
+        shown = re.search(r"((?:    .*\n)+)", text_of("README.md").split("Of the first the answer is\n")[1]).group(1)
+        answer = tool("ringcuts", "--bus", "B5", path("examples", "planning-desk.txt")).out
+        self.assertEqual(re.sub("^    ", "", shown, flags=re.M).encode(), answer)
+        self.assertIn(answer, read("examples", "planning-desk.cuts"))
+
+    def test_the_sets_on_the_card(self):
+        count, parts = re.search(r"`(B3 \d+)` says that B3 has ten, and `(.*?)` is one", text_of("docs", "CARD.md")).groups()
+        lines = tool("ringcuts", "--bus", "B3", data=b"ring 3\n").out.decode().splitlines()
+        self.assertEqual(lines[0], count)
+        self.assertIn(parts, lines)
+
     def test_the_line_on_the_card(self):
         line = re.search(r"\*\*The run\.\*\* `(.*?)`", text_of("docs", "CARD.md")).group(1)
         self.assertIn(line.encode() + b"\n", read("examples", "bus-breaker-open.run"))
 
     def test_card_and_readme_agree(self):
-        """Both have the picture of the ring, and the nine refusals."""
+        """Both have the picture of the ring, and the ten refusals."""
         readme, card = text_of("README.md"), text_of("docs", "CARD.md")
         picture = re.search(r"((?:    .*\n)+)", card).group(1)
         self.assertIn(picture, readme)
         for text in (readme, card):
-            self.assertEqual(re.findall(r"^\| (\d) \|", text, re.M), [str(k) for k in range(1, 10)])
+            self.assertEqual(re.findall(r"^\| (\d+) \|", text, re.M), [str(k) for k in range(1, 11)])
 
     def test_links_lead_somewhere(self):
         for name in ("README.md", "docs/CARD.md", "examples/README.md", "examples/exercises.md"):

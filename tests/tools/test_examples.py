@@ -7,6 +7,7 @@ import unittest
 from support import ToolCase, faultlines, make_vectors, path, read, ringsim, tool
 
 EXAMPLES = sorted(os.path.basename(name)[:-4] for name in glob.glob(path("examples", "*.txt")))
+CUTS = sorted(os.path.basename(name)[:-5] for name in glob.glob(path("examples", "*.cuts")))
 ERRORS = sorted(os.path.basename(name)[:-4] for name in glob.glob(path("examples", "errors", "*.txt")))
 
 
@@ -17,12 +18,26 @@ def simulated_plant(lines):
     return make_vectors.plant_text(case[0], health, orders).encode()
 
 
+def simulated_run(lines):
+    return ringsim.printed_run(faultlines.encode(lines))
+
+
+def simulated_cuts(lines):
+    return make_vectors.cuts_text(faultlines.encode(lines)).encode()
+
+
+SIMULATED = {"ringctl": simulated_run, "ringcuts": simulated_cuts, "ringplant": simulated_plant}
+
+
 class Examples(ToolCase):
 
     def test_each_has_its_files(self):
-        for folder, names, ends in (("examples", EXAMPLES, ("txt", "faults", "run")), ("examples/errors", ERRORS, ("txt", "feeds"))):
+        examples = [(name, end) for name in EXAMPLES for end in ("txt", "faults", "run")] + [(name, "cuts") for name in CUTS]
+        errors = [(name, end) for name in ERRORS for end in ("txt", "feeds")]
+        for folder, wanted in (("examples", examples), ("examples/errors", errors)):
             files = [name for name in os.listdir(path(folder)) if not name.endswith(".md") and name != "errors"]
-            self.assertEqual(sorted(files), sorted("%s.%s" % (name, end) for name in names for end in ends))
+            self.assertEqual(sorted(files), sorted("%s.%s" % names for names in wanted))
+        self.assertLessEqual(set(CUTS), set(EXAMPLES))
 
     def test_each_is_in_the_list(self):
         text = read("examples", "README.md").decode()
@@ -41,6 +56,14 @@ class Examples(ToolCase):
                 for end in (".txt", ".faults"):
                     self.check(tool("ringctl", path("examples", name + end)), status, expected)
 
+    def test_cuts(self):
+        for name in CUTS:
+            with self.subTest(name):
+                expected = read("examples", name + ".cuts")
+                self.assertEqual(simulated_cuts(read("examples", name + ".txt")), expected)
+                for end in (".txt", ".faults"):
+                    self.check(tool("ringcuts", path("examples", name + end)), 0, expected)
+
     def test_errors(self):
         for name in ERRORS:
             with self.subTest(name):
@@ -53,6 +76,8 @@ class Examples(ToolCase):
         self.assertIn(b"refused", runs["refused-word"])
         self.assertIn(b"B3=-", runs["cut-off"])
         self.assertIn(b"B4=G2h", runs["tie-of-four"])
+        self.assertNotIn(b"=-", runs["planning-desk"])
+        self.assertIn(b"\nB5 7\nBB5\n", read("examples", "planning-desk.cuts"))
         clashes = [name for name in ERRORS if b"clash G1 G2" in read("examples", "errors", name + ".feeds")]
         self.assertEqual(clashes, ["breaker-behind", "closing-first", "stuck-closed-taken-for-open"])
 
@@ -70,8 +95,7 @@ class Exercises(ToolCase):
         for number, lines in asked.items():
             with self.subTest(number):
                 lines, expected = lines.encode(), answers[number].encode()
-                simulated = simulated_plant(lines) if tools[number] == "ringplant" else ringsim.printed_run(faultlines.encode(lines))
-                self.assertEqual(simulated, expected)
+                self.assertEqual(SIMULATED[tools[number]](lines), expected)
                 self.check(tool(tools[number], data=lines), int(expected.startswith(b"refused")), expected)
 
 

@@ -1,0 +1,71 @@
+// Stored minimal cut sets, with damaged records, buses outside the ring and short buffers, held against the simulation's answers: see
+// tests/make_vectors.py for the layout of a case.
+ghost use Prim.Native.Nat.{_≤_};
+ghost use lib.ListN.{length};
+use model::Ring;
+use tally::Tally;
+
+// A number of a case, low byte first.
+fn number_of(low: u8, high: u8) -> usize {
+    low as usize + 256 * (high as usize)
+}
+
+// The record of a case.
+fn ring_of(case: &[u8; 127]) -> Ring {
+    Ring {
+        n: case[0],
+        health: cases::health_at(case, 1),
+        commands: cases::commands_at(case, 61),
+    }
+}
+
+// Whether the whole answer, and the buffer after the call, are the simulation's.
+fn same_answer(case: &[u8; 127], buffer: &mut [u8], expected: &[u8]) -> bool {
+    let answer = cutsets::list(ring_of(case), case[121], buffer);
+    let outcome = answer.outcome;
+    let count = answer.count as usize;
+    cases::outcome_number(outcome) == case[124]
+        && count == number_of(case[125], case[126])
+        && check::same(buffer, expected)
+}
+
+// Whether a case agrees whose buffer has this room. The bytes that the buffer is to hold follow the case.
+fn compare(
+    stored: i32,
+    case: &[u8; 127],
+    room: usize,
+    buffer: &mut [u8],
+    expected: &mut [u8],
+) -> bool
+    requires { ⌜ (room ≤ length (now buffer)) × (room ≤ length (now expected)) ⌝ }
+{
+    let got = io::read_full(stored, &mut expected[..room]);
+    got == room && same_answer(case, &mut buffer[..room], &expected[..room])
+}
+
+// Whether a case agrees; none has a longer buffer than 1024.
+fn agrees(stored: i32, case: &[u8; 127]) -> bool {
+    let room = number_of(case[122], case[123]);
+    if 1024 < room {
+        return false;
+    }
+    let mut buffer = [170u8; 1024];
+    let mut expected = [0u8; 1024];
+    compare(stored, case, room, &mut buffer, &mut expected)
+}
+
+fn main() {
+    let stored = tally::stored();
+    let mut tally = Tally {
+        cases: 0,
+        differ: 0,
+    };
+    for _ in 0..100000usize {
+        let mut case = [0u8; 127];
+        if io::read_full(stored, &mut case) < 127 {
+            break;
+        }
+        tally = tally::counted(tally, agrees(stored, &case));
+    }
+    tally::print(tally);
+}
