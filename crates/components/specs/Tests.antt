@@ -4,10 +4,10 @@ use mathlib.Core.Bool.{Bool, true, false, not, _&&_, _||_}
 use mathlib.Core.Logic.{_⊎_, inl, inr, _≢_}
 use Prim.Native.Nat.{ℕ, _+_, _≤_, _<_}
 use native.Mathlib.Numerals.{add-one}
-use lib.Dec.{eqb}
-use borrow.Author.Tests.{eq-eqb, ne-eqb}
+use lib.Dec.{eqb, ltb}
+use borrow.Author.Tests.{eq-eqb, ne-eqb, ltb-true, ltb-false}
 use Rattle.model.specs.Plant.{smallest, largest, next}
-use Rattle.model.specs.Refusals.{sizeOutside}
+use Rattle.model.specs.Refusals.{sizeOutside, busOutside}
 use Rattle.model.specs.Laws.Tests.{contra, dec, dec-lt, dec-eq}
 use Rattle.model.specs.Laws.Refusals.{outside, inside}
 
@@ -102,3 +102,11 @@ module _ (n : ℕ) (r : Bool) where
       go (inl l) m = rw (outside n (inl l)) (is-true r (low l))
       go (inr l) (inl m) = rw (outside n (inr m)) (is-true r (high m))
       go (inr l) (inr m) = rw (inside n l m) (is-false r (within l m))
+
+-- 10: "a bus number outside 1 to n"
+pub bus-test : (n bus : ℕ) (r : Bool) → (bus < 1 → r ≡ false → ⊥) → (n < bus → r ≡ false → ⊥) → (1 ≤ bus → bus ≤ n → r ≡ true → ⊥)
+    → r ≡ busOutside n bus
+unfolding busOutside
+bus-test n bus r low high within =
+    either-test (ltb bus 1) (ltb n bus) r (λ e. is-true r (low (ltb-true bus 1 e))) (λ e. is-true r (high (ltb-true n bus e)))
+    (λ e f. is-false r (within (ltb-false bus 1 e) (ltb-false n bus f)))

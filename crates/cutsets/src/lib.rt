@@ -69,10 +69,7 @@ fn search_sizes(n: usize, health: Health, b: usize, buffer: &mut [u8]) -> usize
         ⌝ }
     ensures few { λ r. ⌜ r ≤ 36051 ⌝ }
 {
-    let none = PartSet {
-        places: [0usize; 3],
-        count: 0,
-    };
+    let none = partsets::empty();
     let parts = 3 * n;
     let mut k = 0usize;
     for faults in 0..4 {

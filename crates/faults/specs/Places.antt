@@ -1,6 +1,6 @@
 -- The parts of a ring by their places, in rising code, and a further fault stored in a health's arrays.
 use mathlib.Core.Path.{_≡_, refl, sym, _∙_, ap, fun-ext}
-use mathlib.Core.Bool.{cond}
+use mathlib.Core.Bool.{Bool, true, false, not, cond}
 use mathlib.Core.Logic.{_⊎_, inl, inr, _≢_}
 use mathlib.Core.List.{List, [], _∷_, _++_, map}
 use Prim.Native.Nat.{ℕ, zero, suc, _+_, _-_, _*_, _≤_, _<_}
@@ -15,10 +15,10 @@ use Rattle.model.specs.declared.Part.the-variants.{Generator, GeneratorBreaker,
 use Rattle.model.specs.declared.Health.{Health}
 use Rattle.model.specs.Lists.{below}
 use Rattle.model.specs.Values.{number, samePart}
-use Rattle.model.specs.Plant.{generator, generatorBreaker, busBreaker, parts}
+use Rattle.model.specs.Plant.{generator, generatorBreaker, busBreaker, parts, stuckOpen}
 use Rattle.model.specs.Reports.{atNumber, healthOf, reported}
 use Rattle.model.specs.CutSets.{withFaults}
-use Rattle.model.specs.Laws.Tests.{dec-eq, dec-lt}
+use Rattle.model.specs.Laws.Tests.{dec, dec-eq, dec-lt}
 use Rattle.model.specs.Laws.Lists.{below-length, map-below-at}
 use Rattle.model.specs.Laws.Parts.{parts-length, arrayOf, withArray}
 use Rattle.model.specs.Laws.CutSets.{fault}
@@ -39,6 +39,17 @@ module _ (n p : ℕ) where
   pub in-third : n + n ≤ p → partAt n p ≡ busBreaker (p - (n + n))
   unfolding partAt
   in-third l = let k : n ≤ p = omega arith in rw (le-ltb p n k, le-ltb p (n + n) l)
+
+-- ---- a breaker that is not stuck open, however the code words its test
+
+pub breaker-test : (h : ℕ) {r : Bool} → (h ≡ 2 → r ≡ true → ⊥) → (h ≢ 2 → r ≡ false → ⊥) → r ≡ not (stuckOpen h)
+breaker-test h {r} f g = go (dec-eq h 2) (dec r)
+  where
+    go : (h ≡ 2) ⊎ (h ≢ 2) → (r ≡ true) ⊎ (r ≡ false) → r ≡ not (stuckOpen h)
+    go (inl e) (inl t) = absurd (f e t)
+    go (inl e) (inr t) = rw (eq-eqb h 2 e) t
+    go (inr e) (inl t) = rw (ne-eqb h 2 e) t
+    go (inr e) (inr t) = absurd (g e t)
 
 -- ---- the part at a place is the one that stands there
 

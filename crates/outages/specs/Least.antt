@@ -183,8 +183,8 @@ module _ (n : ℕ) (H : PartHealth) (b : ℕ) (hb : b < n) where
             (one-path (pathTo b (t .0) false) (side-supplies true (t .0) (t .1), t .1 .other))
 
     -- with the bus's own generator
-    pub least-own : mayFeed H b ≡ true → Least n H b (sidePaths n rise fall + 1)
-    least-own e =
+    pub least-own : (k : ℕ) → mayFeed H b ≡ true → k ≡ sidePaths n rise fall + 1 → Least n H b k
+    least-own k e is =
         let t = side-paths in
         record {
           bound = λ S d.
@@ -207,15 +207,15 @@ module _ (n : ℕ) (H : PartHealth) (b : ℕ) (hb : b < n) where
         go (inr e) (inr f) (inr l) = absurd (omega (arith, rw (ne-eqb rise 0 e, ne-eqb fall 0 f, le-ltb (rise + fall) n l) at z))
 
     -- without it
-    pub least-sides : mayFeed H b ≡ false → Least n H b (sidePaths n rise fall)
+    pub least-sides : (k : ℕ) → mayFeed H b ≡ false → k ≡ sidePaths n rise fall → Least n H b k
     unfolding mayFeed
-    least-sides e =
+    least-sides k e is =
         let t = side-paths in
         record {
           bound = λ S d.
               let c = disjoint-faults n H b hb S d {ws = t .found} (t .apart) (λ v m. t .supplying v m .0) in
               omega (arith, t .count);
-          dark = λ z. dark-exactly n H b hb .1 (λ g r. unreached (none-beside z) g r (dec-eq g b));
+          dark = λ z. dark-exactly n H b hb .1 (λ g r. unreached (none-beside (sym is ∙ z)) g r (dec-eq g b));
         }
       where
         feeds : (g : ℕ) → Reaches n H b g → mayFeed H g ≡ true
@@ -229,12 +229,16 @@ module _ (n : ℕ) (H : PartHealth) (b : ℕ) (hb : b < n) where
             side (inl f) = down-side .none (z .1) g (record { inside = r .inside; other = q; feeding = feeds g r; line = f })
             side (inr f) = up-side .none (z .0) g (record { inside = r .inside; other = q; feeding = feeds g r; line = f })
 
--- dark is 0, exactly
-pub dark-least : (n : ℕ) (H : PartHealth) (b k : ℕ) → Least n H b k → eqb k 0 ≡ isNone (plan n H b)
+-- dark is 0, exactly: however the code words its test
+pub dark-test : (n : ℕ) (H : PartHealth) (b k : ℕ) {r : Bool} → Least n H b k → (k ≡ 0 → r ≡ false → ⊥) → (k ≢ 0 → r ≡ true → ⊥)
+    → r ≡ isNone (plan n H b)
 unfolding darkens withFaults
-dark-least n H b k l = go (dec-eq k 0) (dec (isNone (plan n H b)))
+dark-test n H b k {r} l p q = go (dec-eq k 0) (dec r) (dec (isNone (plan n H b)))
   where
-    go : (k ≡ 0) ⊎ (k ≢ 0) → (isNone (plan n H b) ≡ true) ⊎ (isNone (plan n H b) ≡ false) → eqb k 0 ≡ isNone (plan n H b)
-    go (inl e) d = rw (eq-eqb k 0 e) (sym (l .dark e))
-    go (inr e) (inl d) = absurd (omega (arith, e, l .bound [] d))
-    go (inr e) (inr d) = rw (ne-eqb k 0 e) (sym d)
+    go : (k ≡ 0) ⊎ (k ≢ 0) → (r ≡ true) ⊎ (r ≡ false) → (isNone (plan n H b) ≡ true) ⊎ (isNone (plan n H b) ≡ false)
+        → r ≡ isNone (plan n H b)
+    go (inl e) (inl t) d = t ∙ sym (l .dark e)
+    go (inl e) (inr t) d = absurd (p e t)
+    go (inr e) (inl t) d = absurd (q e t)
+    go (inr e) (inr t) (inl d) = absurd (omega (arith, e, l .bound [] d))
+    go (inr e) (inr t) (inr d) = t ∙ sym d

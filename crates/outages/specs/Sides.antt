@@ -5,7 +5,7 @@ use mathlib.Core.Logic.{_⊎_, inl, inr, _≢_}
 use Prim.Native.Nat.{ℕ, zero, suc, _+_, _≤_, _<_}
 use native.Mathlib.Omega.{arith}
 use lib.Dec.{ltb, eqb}
-use borrow.Author.Tests.{not-true}
+use borrow.Author.Tests.{not-true, eq-eqb, ne-eqb}
 use Rattle.model.specs.Plant.{PartHealth, busBreaker, stuckOpen, next, up}
 use Rattle.model.specs.Laws.Tests.{contra, not-of, dec-eq, dec-lt}
 use Rattle.theory.specs.Proofs.Geometry.{
@@ -136,16 +136,16 @@ module _ (n : ℕ) (H : PartHealth) (r : Bool) (b : ℕ) (hb : b < n) where
   nothing-met f = record { short = omega arith; found = λ l. absurd (omega arith); none = λ e. f }
 
   module _ (k d : ℕ) (w : Walked n H r b k d) where
-    pub walked-open : stuckOpen (H (busBreaker (breakerBeside n r k))) ≡ true → Met n H r b 0
+    pub walked-open : H (busBreaker (breakerBeside n r k)) ≡ 2 → Met n H r b 0
     walked-open e = nothing-met (λ g l.
-        contra e
+        contra (eq-eqb (H (busBreaker (breakerBeside n r k))) 2 e)
         (not-true (stuckOpen (H (busBreaker (breakerBeside n r k))))
         (closed-on n b hb (passable H) r k g (w .at) (l .inside) (l .line) (omega (arith, w .far, w .past g l)))))
 
     pub walked-end : n ≤ d + 1 → Met n H r b 0
     walked-end h = nothing-met (λ g l. omega (arith, w .past g l, steps-lt n b hb r g (l .inside)))
 
-    module _ (room : d + 1 < n) (clear : stuckOpen (H (busBreaker (breakerBeside n r k))) ≡ false) where
+    module _ (room : d + 1 < n) (clear : H (busBreaker (breakerBeside n r k)) ≢ 2) where
       short : suc (steps n r b k) < n
       short = omega (arith, w .far)
 
@@ -153,7 +153,9 @@ module _ (n : ℕ) (H : PartHealth) (r : Bool) (b : ℕ) (hb : b < n) where
       farther = omega (arith, steps-more n b hb r k (w .at) short, w .far)
 
       on : Closed n (passable H) r b (busBeside n r k)
-      on = closed-more n b hb (passable H) r k (w .at) short (w .line) (not-of (stuckOpen (H (busBreaker (breakerBeside n r k)))) clear)
+      on =
+          closed-more n b hb (passable H) r k (w .at) short (w .line)
+          (not-of (stuckOpen (H (busBreaker (breakerBeside n r k)))) (ne-eqb (H (busBreaker (breakerBeside n r k))) 2 clear))
 
       pub walked-met : mayFeed H (busBeside n r k) ≡ true → Met n H r b (d + 1)
       walked-met e = record {

@@ -2,11 +2,10 @@
 use mathlib.Core.Path.{_≡_, sym, _∙_, ap}
 use mathlib.Core.Bool.{Bool, true, false}
 use mathlib.Core.Logic.{_⊎_, inl, inr}
-use mathlib.Core.List.{List, _++_, map}
+use mathlib.Core.List.{List, _++_}
 use Prim.Native.Nat.{ℕ, _+_, _≤_, _<_}
 use native.Mathlib.Omega.{arith}
 use lib.ListN.{length, length-append}
-use lib.Seq.{slice}
 use Rattle.partsets.specs.declared.PartSet.{PartSet}
 use Rattle.model.specs.declared.Part.{Part}
 use Rattle.model.specs.Lists.{isNone}
@@ -18,8 +17,7 @@ use Rattle.model.specs.Laws.CutSets.{faults-both}
 use Rattle.theory.specs.Proofs.Subsets.{sub-front, without, without-proper}
 use Rattle.theory.specs.Theorems.CutSets.{not-dark, not-least, minimal-one}
 use Rattle.outages.specs.Least.{Least}
-use Rattle.faults.specs.Places.{partAt}
-use Rattle.partsets.specs.Sets.{partsOf, all-faults, other-faults}
+use Rattle.partsets.specs.Sets.{partsOf, partsFrom, all-faults, other-faults}
 
 -- no set of S and k parts more counts
 abbrev pub NoneCounts : ℕ → PartHealth → ℕ → List Part → ℕ → Type 0
@@ -47,20 +45,22 @@ module _ (n : ℕ) (H : PartHealth) (b : ℕ) (S : List Part) (m k : ℕ) (l : L
 
 -- the health K after the faults of a set that is held, and that after the faults of all its parts but one
 module _ (n : ℕ) (H : PartHealth) (b : ℕ) (s : PartSet) {K : PartHealth} where
-  pub least-after : {m : ℕ} → K ≡ withFaults H (map (partAt n) (slice 0 (s .count) (s .places))) → Least n K b m
+  pub least-after : {m : ℕ} → K ≡ withFaults H (partsFrom n s 0 (s .count)) → Least n K b m
       → Least n (withFaults H (partsOf n s)) b m
   least-after e l = rw (all-faults n H s) (rw e at l)
 
-  pub dark-after : {t : Bool} → K ≡ withFaults H (map (partAt n) (slice 0 (s .count) (s .places))) → isNone (plan n K b) ≡ t
+  pub dark-after : {t : Bool} → K ≡ withFaults H (partsFrom n s 0 (s .count)) → isNone (plan n K b) ≡ t
       → darkens n H b (partsOf n s) ≡ t
   unfolding darkens
   dark-after e d = rw (all-faults n H s) (rw e at d)
 
-  pub dark-without : (i : ℕ) {J : PartHealth} {t : Bool} → i < s .count → J ≡ withFaults H (map (partAt n) (slice 0 i (s .places)))
-      → K ≡ withFaults J (map (partAt n) (slice (i + 1) (s .count) (s .places))) → isNone (plan n K b) ≡ t
-      → darkens n H b (without i (partsOf n s)) ≡ t
+  -- the faults of the parts from index j up to index i are those before the one left out, those from index k on those behind it
+  pub dark-without : (i : ℕ) {j k : ℕ} {J : PartHealth} {t : Bool} → i < s .count
+      → J ≡ withFaults H (partsFrom n s j i)
+      → K ≡ withFaults J (partsFrom n s k (s .count)) → isNone (plan n K b) ≡ t
+      → j ≡ 0 → k ≡ i + 1 → darkens n H b (without i (partsOf n s)) ≡ t
   unfolding darkens
-  dark-without i {J} h e f d = rw (other-faults n H s i J h e) at (rw f at d)
+  dark-without i {J = J} h e f d z y = rw (other-faults n H s i J h (rw z at e)) at (rw (f, y) at d)
 
 module _ (n : ℕ) (H : PartHealth) (b : ℕ) (hb : b < n) (S : List Part) where
   pub lit : darkens n H b S ≡ false → false ≡ minimal n H b S

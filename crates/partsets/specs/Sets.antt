@@ -61,18 +61,24 @@ module _ (n : ℕ) (s : PartSet) (p : ℕ) (full : length (s .places) ≡ 3) (l 
   unfolding withPlace partsOf
   parts-more = rw (add-one, take-suc-set (s .places) (s .count) p (omega arith), map-append)
 
--- ---- the faults of a set, from index i up to index t
+-- ---- the faults of a set
 
-pub fault-step : (n : ℕ) (H : PartHealth) (l : List ℕ) (i t : ℕ) → i < t → t ≤ length l
-    → withFaults H (map (partAt n) (slice i t l))
-    ≡ withFaults (withFaults H (partAt n (getD l i 0) ∷ [])) (map (partAt n) (slice (i + 1) t l))
-fault-step n H l i t h k =
-    rw (add-one, ← faults-both H (partAt n (getD l i 0) ∷ []) (map (partAt n) (slice (suc i) t l)))
-    (ap (λ (x : List ℕ). withFaults H (map (partAt n) x)) (slice-cons i t l 0 h k))
+-- its parts from index i up to index t
+unfoldable pub partsFrom : ℕ → PartSet → ℕ → ℕ → List Part
+partsFrom n s i t = map (partAt n) (slice i t (s .places))
 
-pub fault-end : (n : ℕ) (H : PartHealth) (l : List ℕ) (i t : ℕ) → i ≡ t → withFaults H (map (partAt n) (slice i t l)) ≡ H
-unfolding withFaults
-fault-end n H l i t e = rw (e, slice-empty t l)
+module _ (n : ℕ) (H : PartHealth) (s : PartSet) (i t : ℕ) where
+  -- one part more
+  pub fault-step : i < t → t ≤ length (s .places)
+      → withFaults H (partsFrom n s i t) ≡ withFaults (withFaults H (partAt n (getD (s .places) i 0) ∷ [])) (partsFrom n s (i + 1) t)
+  unfolding partsFrom
+  fault-step h k =
+      rw (add-one, ← faults-both H (partAt n (getD (s .places) i 0) ∷ []) (map (partAt n) (slice (suc i) t (s .places))))
+      (ap (λ (x : List ℕ). withFaults H (map (partAt n) x)) (slice-cons i t (s .places) 0 h k))
+
+  pub fault-end : i ≡ t → withFaults H (partsFrom n s i t) ≡ H
+  unfolding withFaults partsFrom
+  fault-end e = rw (e, slice-empty t (s .places))
 
 map-take : (f : ℕ → Part) (i : ℕ) (l : List ℕ) → take i (map f l) ≡ map f (take i l)
 map-take f zero l = refl
@@ -85,26 +91,20 @@ map-drop f (suc i) [] = refl
 map-drop f (suc i) (x ∷ l) = map-drop f i l
 
 -- the parts before an index and those after it
-without-parts : (n : ℕ) (s : PartSet) (i : ℕ) → i < s .count
-    → without i (partsOf n s) ≡ map (partAt n) (slice 0 i (s .places)) ++ map (partAt n) (slice (i + 1) (s .count) (s .places))
-unfolding without partsOf
+without-parts : (n : ℕ) (s : PartSet) (i : ℕ) → i < s .count → without i (partsOf n s) ≡ partsFrom n s 0 i ++ partsFrom n s (i + 1) (s .count)
+unfolding without partsOf partsFrom
 without-parts n s i h =
     rw (add-one, map-take (partAt n) i (take (s .count) (s .places)), map-drop (partAt n) (suc i) (take (s .count) (s .places)))
     (rw (take-take i (s .count) (s .places) (omega arith)))
 
 module _ (n : ℕ) (H : PartHealth) (s : PartSet) where
-  pub all-faults : withFaults H (partsOf n s) ≡ withFaults H (map (partAt n) (slice 0 (s .count) (s .places)))
-  unfolding partsOf
+  pub all-faults : withFaults H (partsOf n s) ≡ withFaults H (partsFrom n s 0 (s .count))
+  unfolding partsOf partsFrom
   all-faults = refl
 
-  pub other-faults : (i : ℕ) (J : PartHealth) → i < s .count → J ≡ withFaults H (map (partAt n) (slice 0 i (s .places)))
-      → withFaults J (map (partAt n) (slice (i + 1) (s .count) (s .places))) ≡ withFaults H (without i (partsOf n s))
-  other-faults i J h e =
-      rw (
-        e,
-        without-parts n s i h,
-        faults-both H (map (partAt n) (slice 0 i (s .places))) (map (partAt n) (slice (i + 1) (s .count) (s .places))),
-      )
+  pub other-faults : (i : ℕ) (J : PartHealth) → i < s .count → J ≡ withFaults H (partsFrom n s 0 i)
+      → withFaults J (partsFrom n s (i + 1) (s .count)) ≡ withFaults H (without i (partsOf n s))
+  other-faults i J h e = rw (e, without-parts n s i h, faults-both H (partsFrom n s 0 i) (partsFrom n s (i + 1) (s .count)))
 
 pub parts-count : (n : ℕ) (s : PartSet) → length (s .places) ≡ 3 → s .count ≤ 3 → length (partsOf n s) ≡ s .count
 unfolding partsOf

@@ -2,15 +2,12 @@
 // Buses and places are indices from 0.
 ghost use mathlib.Core.Path.{_≡_};
 ghost use mathlib.Core.Bool.{true};
-ghost use mathlib.Core.List.{map};
 ghost use Prim.Native.Nat.{_+_, _*_, _≤_, _<_};
 ghost use lib.ListN.{length, getD};
-ghost use lib.Seq.{slice};
 ghost use Rattle.model.specs.Reports.{healthOf};
 ghost use Rattle.model.specs.CutSets.{withFaults, minimal, setBytes};
 ghost use Rattle.model.specs.Laws.Appended.{Appended};
-ghost use Rattle.faults.specs.Places.{partAt};
-ghost use Rattle.partsets.specs.Sets.{Held, withPlace, partsOf};
+ghost use Rattle.partsets.specs.Sets.{Held, withPlace, partsOf, partsFrom};
 ghost use Rattle.partsets.specs.Minimal.{NoneCounts};
 use model::Health;
 
@@ -18,6 +15,16 @@ use model::Health;
 pub struct PartSet {
     pub places: [usize; 3],
     pub count: usize,
+}
+
+// The set of no part.
+pub fn empty() -> PartSet
+    ensures { λ r. ⌜ r .count ≡ 0 ⌝ }
+{
+    PartSet {
+        places: [0usize; 3],
+        count: 0,
+    }
 }
 
 // The set with one part more.
@@ -35,7 +42,7 @@ pub fn with_place(set: PartSet, p: usize) -> PartSet
 // The health after the further faults of the parts of a set from one index up to another.
 fn with_faults(n: usize, health: Health, set: PartSet, from: usize, to: usize) -> Health
     requires { ⌜ (n ≤ 20) × Held n set × (from ≤ to) × (to ≤ set .count) ⌝ }
-    ensures { λ r. ⌜ healthOf r ≡ withFaults (healthOf health) (map (partAt n) (slice from to (set .places))) ⌝ }
+    ensures { λ r. ⌜ healthOf r ≡ withFaults (healthOf health) (partsFrom n set from to) ⌝ }
 {
     let mut after = health;
     for i in from..to {

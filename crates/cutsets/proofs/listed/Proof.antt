@@ -14,13 +14,15 @@ returns : tie.Need-returns
 returns c =
     let s = c .before .before .before in
     let r = s .search-sizes in
-    sheet-short _ _ _ (r .result) (r .ensures .0) (room (r .result) (r .ensures .1)) _ (c .before .if1 .taken) (c .refused .ensures _)
+    sheet-short _ _ _ (r .result) (r .ensures .0) (room (r .result) (r .ensures .1)) _
+    (omega (arith, c .before .if1 .taken)) (c .refused .ensures _)
 
 returns-2 : tie.Need-returns-2
 returns-2 c =
     let d = c .before .before .before .before .before in
     let r = d .before .before .search-sizes in
-    sheet-served _ _ _ (r .result) (r .ensures .0) (room (r .result) (r .ensures .1)) _ (d .if1 .left) (c .before .before .write-sheet .ensures)
+    sheet-served _ _ _ (r .result) (r .ensures .0) (room (r .result) (r .ensures .1)) _ (omega (arith, d .if1 .left))
+    (c .before .before .write-sheet .ensures)
 
 pub listed-spec : {M : Type 1} → statement M
 listed-spec =

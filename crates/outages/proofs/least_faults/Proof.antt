@@ -1,5 +1,6 @@
 -- `outages::least_faults` meets its contract: a fault for each path that has no part in common with the others.
 use borrow.Author.Needs.{needs}
+use native.Mathlib.Omega.{arith}
 use mathlib.Core.Path.{_≡_, sym, _∙_}
 use mathlib.Core.Bool.{Bool, true, false}
 use Rattle.model.specs.Reports.{healthOf}
@@ -19,17 +20,15 @@ returns : tie.Need-returns
 returns c =
     let d = c .before .before .before .before in
     let q = d .before .before .before in
-    rw (d .side-paths .ensures .0)
-    (least-own _ _ _ (q .pre .0) _ _ (d .before .before .steps-to-generator .ensures) (d .before .steps-to-generator2 .ensures)
-    (own (c .before) true (c .if1 .taken)))
+    least-own _ _ _ (q .pre .0) _ _ (d .before .before .steps-to-generator .ensures) (d .before .steps-to-generator2 .ensures) _
+    (own (c .before) true (c .if1 .taken)) (omega (arith, d .side-paths .ensures .0))
 
 returns-2 : tie.Need-returns-2
 returns-2 c =
     let d = c .before .before .before .before in
     let q = d .before .before .before in
-    rw (d .side-paths .ensures .0)
-    (least-sides _ _ _ (q .pre .0) _ _ (d .before .before .steps-to-generator .ensures) (d .before .steps-to-generator2 .ensures)
-    (own (c .before) false (c .if1 .left)))
+    least-sides _ _ _ (q .pre .0) _ _ (d .before .before .steps-to-generator .ensures) (d .before .steps-to-generator2 .ensures) _
+    (own (c .before) false (c .if1 .left)) (omega (arith, d .side-paths .ensures .0))
 
 pub least-faults-spec : {M : Type 1} → statement M
 least-faults-spec =

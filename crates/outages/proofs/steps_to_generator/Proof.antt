@@ -1,11 +1,11 @@
 -- `outages::steps_to_generator` meets its contract. The loop's invariant: the buses passed lead to no generator that may feed.
 use mathlib.Core.Path.{_≡_, sym, _∙_}
 use mathlib.Core.Bool.{Bool, true, false}
+use mathlib.Core.Logic.{_≢_}
 use Prim.Native.Nat.{_<_, _-_, _+_}
 use native.Mathlib.Omega.{arith}
 use borrow.Author.Needs.{needs}
-use borrow.Author.Tests.{eq-eqb, ne-eqb}
-use Rattle.model.specs.Plant.{busBreaker, stuckOpen}
+use Rattle.model.specs.Plant.{busBreaker}
 use Rattle.model.specs.Reports.{healthOf}
 use Rattle.sources.specs.Sources.{mayFeed}
 use Rattle.walks.specs.Walk.{breakerBeside, busBeside, breaker-lt, bus-lt}
@@ -34,8 +34,8 @@ unfolding healthOf
 returns c =
     let d = c .before .before in
     let q = d .before .before in
-    let e = rw (d .breaker-beside .ensures) at (eq-eqb _ _ (c .if1 .taken)) in
-    walked-open _ _ _ _ (q .before .pre .0) _ _ (q .loop .inv .2) e
+    let e : healthOf (q .before .args .t2) (busBreaker (d .breaker-beside .result)) ≡ 2 = omega (arith, c .if1 .taken) in
+    walked-open _ _ _ _ (q .before .pre .0) _ _ (q .loop .inv .2) (rw (d .breaker-beside .ensures) at e)
 
 -- the bus behind it
 behind-lt : (d : tie.After-bus-beside Inv-loop μ-loop) → d .bus-beside .result < d .before .before .before .before .before .before .args .n
@@ -51,9 +51,12 @@ in-array d = omega (arith, behind-lt d, d .before .before .before .before .befor
 clear : (d : tie.Else1 Inv-loop μ-loop) →
     let q = d .before .before .before .before in
     let a = q .before .args in
-    stuckOpen (healthOf (a .t2) (busBreaker (breakerBeside (a .n) (a .rising) (q .loop .k)))) ≡ false
+    healthOf (a .t2) (busBreaker (breakerBeside (a .n) (a .rising) (q .loop .k))) ≢ 2
 unfolding healthOf
-clear d = rw (d .before .before .breaker-beside .ensures) at (ne-eqb _ _ (d .if1 .left))
+clear d =
+    let a = d .before .before .before .before .before .args in
+    let e : healthOf (a .t2) (busBreaker (d .before .before .breaker-beside .result)) ≢ 2 = λ z. omega (arith, d .if1 .left) in
+    rw (d .before .before .breaker-beside .ensures) at e
 
 -- whether the generator of the bus reached may feed
 judged : (d : tie.After-may-feed Inv-loop μ-loop) (t : Bool) → d .may-feed .result ≡ t →
@@ -67,7 +70,7 @@ returns-2 : tie.Need-returns-2 Inv-loop μ-loop
 returns-2 c =
     let d = c .before .before .before .before .before in
     let q = d .before .before .before .before in
-    walked-met _ _ _ _ (q .before .pre .0) _ _ (q .loop .inv .2) (d .before .before .before .loop-test .taken) (clear d)
+    walked-met _ _ _ _ (q .before .pre .0) _ _ (q .loop .inv .2) (omega (arith, d .before .before .before .loop-test .taken)) (clear d)
     (judged (c .before) true (c .if2 .taken))
 
 loop-again : tie.Need-loop-again Inv-loop μ-loop
@@ -75,7 +78,7 @@ loop-again c =
     let m = c .before .before .before .before in
     let d = m .before in
     let q = d .before .before .before .before in
-    let room = d .before .before .before .loop-test .taken in (
+    let room : q .loop .steps + 1 < q .before .args .n = omega (arith, d .before .before .before .loop-test .taken) in (
       behind-lt m,
       room,
       rw (m .bus-beside .ensures)
@@ -83,7 +86,7 @@ loop-again c =
     )
 
 returns-3 : tie.Need-returns-3 Inv-loop μ-loop
-returns-3 c = let q = c .before in walked-end _ _ _ _ (q .before .pre .0) _ _ (q .loop .inv .2) (c .loop-test .left)
+returns-3 c = let q = c .before in walked-end _ _ _ _ (q .before .pre .0) _ _ (q .loop .inv .2) (omega (arith, c .loop-test .left))
 
 pub steps-to-generator-spec : {M : Type 1} → statement M
 steps-to-generator-spec =

@@ -49,8 +49,8 @@ one-left-out d t e =
     let w = d .before .before in
     let q = w .before .before in
     let a = from-loop q .args in
-    dark-without (a .n) (healthOf (a .health)) (a .b) (a .set) (q .loop .i) (w .before .loop-test .taken) (w .with-faults2 .ensures)
-    (d .before .with-faults3 .ensures) (sym (d .is-dark2 .ensures) ∙ e)
+    dark-without (a .n) (healthOf (a .health)) (a .b) (a .set) (q .loop .i) (w .before .loop-test .taken)
+    (w .with-faults2 .ensures) (d .before .with-faults3 .ensures) (sym (d .is-dark2 .ensures) ∙ e) (omega arith) (omega arith)
 
 returns-2 : tie.Need-returns-2 Inv-loop μ-loop
 returns-2 c =
