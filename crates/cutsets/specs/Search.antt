@@ -145,54 +145,63 @@ pub most-one : (m k : ℕ) → k ≡ 0 → most m k ≡ 1
 unfolding most
 most-one m k e = rw e
 
+-- `after` is `before` with the sets stored, behind the first i, that are found with a set held from place p on; j is how many there are
+-- then
+pub record Stored (n : ℕ) (H : PartHealth) (b : ℕ) (s : PartSet) (p k : ℕ) (before : List ℕ) (i : ℕ) (after : List ℕ) (j : ℕ) : Type 0 where
+  pub bytes : Appended (flatMap setBytes (foundFrom n H b s p k)) before (3 * i) after (3 * j)
+
 -- what is stored at each return
 module _ (n : ℕ) (H : PartHealth) (b : ℕ) (s : PartSet) (p m k : ℕ) (l : List ℕ) (i : ℕ) where
-  abbrev Stored : List ℕ → ℕ → Type 0
-  Stored l′ j = Appended (flatMap setBytes (foundFrom n H b s p k)) l (3 * i) l′ (3 * j)
-
-  nothing-found : foundFrom n H b s p k ≡ [] → Stored l i
+  nothing-found : foundFrom n H b s p k ≡ [] → Stored n H b s p k l i l i
   unfolding flatMap
-  nothing-found e = rw e (appended-none l (3 * i))
+  nothing-found e = record { bytes = rw e (appended-none l (3 * i)) }
 
-  pub ends-none : {t : Bool} → k ≡ 0 → t ≡ minimal n H b (partsOf n s) → t ≡ false → Stored l i
+  pub ends-none : {t : Bool} → k ≡ 0 → t ≡ minimal n H b (partsOf n s) → t ≡ false → Stored n H b s p k l i l i
   ends-none z e f = nothing-found (rw z (found-none n H b (partsOf n s) (drop p (parts n)) (sym e ∙ f)))
 
-  pub ends-one : (l′ : List ℕ) {t : Bool} → k ≡ 0 → t ≡ minimal n H b (partsOf n s) → t ≡ true
-      → Appended (setBytes (partsOf n s)) l (3 * i) l′ (3 * (i + 1)) → Stored l′ (i + 1)
+  pub ends-one : {l′ : List ℕ} {h j : ℕ} {t : Bool} → k ≡ 0 → t ≡ minimal n H b (partsOf n s) → t ≡ true
+      → Appended (setBytes (partsOf n s)) l h l′ j → h ≡ 3 * i → j ≡ 3 * (i + 1) → Stored n H b s p k l i l′ (i + 1)
   unfolding flatMap
-  ends-one l′ z e f a = rw (z, found-one n H b (partsOf n s) (drop p (parts n)) (sym e ∙ f), append-nil (setBytes (partsOf n s))) a
+  ends-one z e f a at to = record {
+    bytes = rw (z, found-one n H b (partsOf n s) (drop p (parts n)) (sym e ∙ f), append-nil (setBytes (partsOf n s))) (rw (at, to) at a);
+  }
 
-  pub ends-parts : k ≢ 0 → m ≡ 0 → p + m ≡ 3 * n → Stored l i
+  pub ends-parts : k ≢ 0 → m ≡ 0 → p + m ≡ 3 * n → Stored n H b s p k l i l i
   ends-parts z e r = nothing-found (rw (parts-ended n p (omega arith)) (found-ended n H b (partsOf n s) k z))
 
-  pub ends-hopeless : NoneCounts n H b (partsOf n s) k → Stored l i
+  pub ends-hopeless : NoneCounts n H b (partsOf n s) k → Stored n H b s p k l i l i
   ends-hopeless f = nothing-found (found-hopeless n H b (partsOf n s) (drop p (parts n)) k f)
 
-  pub ends-passed : (l′ : List ℕ) (j : ℕ) → m ≢ 0 → p + m ≡ 3 * n → canFail H (partAt n p) ≡ false
-      → Appended (flatMap setBytes (foundFrom n H b s (p + 1) k)) l (3 * i) l′ (3 * j) → Stored l′ j
-  ends-passed l′ j y r e a =
-      rw (parts-left n p (omega arith), found-passed n H b (partsOf n s) (partAt n p) (drop (p + 1) (parts n)) k e) a
+  pub ends-passed : {p′ : ℕ} {l′ : List ℕ} {j : ℕ} → m ≢ 0 → p + m ≡ 3 * n → canFail H (partAt n p) ≡ false
+      → Stored n H b s p′ k l i l′ j → p′ ≡ p + 1 → Stored n H b s p k l i l′ j
+  ends-passed y r e a next = record {
+    bytes =
+        rw (parts-left n p (omega arith), found-passed n H b (partsOf n s) (partAt n p) (drop (p + 1) (parts n)) k e) (rw next at (a .bytes));
+  }
 
-  pub ends-both : (t : PartSet) (l′ l″ : List ℕ) (j h : ℕ) → length (s .places) ≡ 3 → s .count < 3 → k ≢ 0 → m ≢ 0 → p + m ≡ 3 * n
-      → canFail H (partAt n p) ≡ true → t ≡ withPlace s p
-      → Appended (flatMap setBytes (foundFrom n H b t (p + 1) (k - 1))) l (3 * i) l′ (3 * j)
-      → Appended (flatMap setBytes (foundFrom n H b s (p + 1) k)) l′ (3 * j) l″ (3 * h) → Stored l″ h
-  ends-both t l′ l″ j h full few z y r e is a c =
-      let a′ = rw (is, parts-more n s p full few) at a in
-      rw (
-        parts-left n p (omega arith),
-        found-both n H b (partsOf n s) (partAt n p) (drop (p + 1) (parts n)) k z e,
-        flat-append setBytes (found n H b (partsOf n s ++ (partAt n p ∷ [])) (drop (p + 1) (parts n)) (k - 1)) (foundFrom n H b s (p + 1) k),
-      )
-      (appended-more a′ c)
+  -- the sets with the next part, then those without it
+  pub ends-both : {p′ p″ k′ j i′ h : ℕ} {t : PartSet} {l′ l″ : List ℕ} → length (s .places) ≡ 3 → s .count < 3 → k ≢ 0 → m ≢ 0
+      → p + m ≡ 3 * n → canFail H (partAt n p) ≡ true → t ≡ withPlace s p
+      → Stored n H b t p′ k′ l i l′ j → Stored n H b s p″ k l′ i′ l″ h → p′ ≡ p + 1 → p″ ≡ p + 1 → k′ ≡ k - 1 → i′ ≡ j
+      → Stored n H b s p k l i l″ h
+  ends-both full few z y r e is a c next next′ fewer from = record {
+    bytes =
+        rw (
+          parts-left n p (omega arith),
+          found-both n H b (partsOf n s) (partAt n p) (drop (p + 1) (parts n)) k z e,
+          flat-append setBytes (found n H b (partsOf n s ++ (partAt n p ∷ [])) (drop (p + 1) (parts n)) (k - 1))
+              (foundFrom n H b s (p + 1) k),
+        )
+        (appended-more (rw (is, parts-more n s p full few, next, fewer) at (a .bytes)) (rw (next′, from) at (c .bytes)));
+  }
 
 -- so many more are found
-pub more-found : (n : ℕ) (H : PartHealth) (b : ℕ) (s : PartSet) (p m k : ℕ) (l l′ : List ℕ) (i j : ℕ) → p + m ≡ 3 * n
-    → Appended (flatMap setBytes (foundFrom n H b s p k)) l (3 * i) l′ (3 * j) → j ≤ i + most m k
-more-found n H b s p m k l l′ i j r a =
+pub more-found : {n : ℕ} {H : PartHealth} {b : ℕ} {s : PartSet} {p k i j : ℕ} {l l′ : List ℕ} (m : ℕ) → Stored n H b s p k l i l′ j
+    → p + m ≡ 3 * n → j ≤ i + most m k
+more-found {n} {H} {b} {s} {p} {k} m a r =
     omega (
       arith,
-      a .end,
+      a .bytes .end,
       bytes-count (foundFrom n H b s p k),
       found-count n H b (partsOf n s) (drop p (parts n)) k m (omega (arith, length-drop p (parts n), parts-length n)),
     )
@@ -200,9 +209,10 @@ more-found n H b s p m k l l′ i j r a =
 -- ---- the next call
 
 module _ {n b : ℕ} {s : PartSet} {p m k : ℕ} (g : Searching n b s p m k) where
-  pub taken-on : (t : PartSet) → length (s .places) ≡ 3 → k ≢ 0 → m ≢ 0 → t ≡ withPlace s p → Searching n b t (p + 1) (m - 1) (k - 1)
+  pub taken-on : {p′ m′ k′ : ℕ} (t : PartSet) → length (s .places) ≡ 3 → k ≢ 0 → m ≢ 0 → t ≡ withPlace s p → p′ ≡ p + 1 → m′ ≡ m - 1
+      → k′ ≡ k - 1 → Searching n b t p′ m′ k′
   unfolding withPlace
-  taken-on t full z y e =
+  taken-on t full z y e next less fewer =
       let few : s .count < 3 = omega (arith, g .spend) in
       rw e
       (record {
@@ -213,19 +223,19 @@ module _ {n b : ℕ} {s : PartSet} {p m k : ℕ} (g : Searching n b s p m k) whe
         spend = omega (arith, g .spend);
       })
 
-  pub passed-on : m ≢ 0 → Searching n b s (p + 1) (m - 1) k
-  passed-on y = record { bus = g .bus; size = g .size; held = g .held; rest = omega (arith, g .rest); spend = g .spend }
+  pub passed-on : {p′ m′ : ℕ} → m ≢ 0 → p′ ≡ p + 1 → m′ ≡ m - 1 → Searching n b s p′ m′ k
+  passed-on y next less = record { bus = g .bus; size = g .size; held = g .held; rest = omega (arith, g .rest); spend = g .spend }
 
   pub at-part : m ≢ 0 → p < 3 * n
   at-part y = omega (arith, g .rest)
 
 -- the room that it has
 module _ (m k i L : ℕ) (z : k ≢ 0) (y : m ≢ 0) (room : 3 * (i + most m k) ≤ L) where
-  pub room-taken : 3 * (i + most (m - 1) (k - 1)) ≤ L
-  room-taken = omega (arith, most-falls m k z y)
+  pub room-taken : {m′ k′ : ℕ} → m′ ≡ m - 1 → k′ ≡ k - 1 → 3 * (i + most m′ k′) ≤ L
+  room-taken less fewer = rw (less, fewer) (omega (arith, most-falls m k z y))
 
-  pub room-passed : 3 * (i + most (m - 1) k) ≤ L
-  room-passed = omega (arith, most-falls m k z y)
+  pub room-passed : {m′ : ℕ} → m′ ≡ m - 1 → 3 * (i + most m′ k) ≤ L
+  room-passed less = rw less (omega (arith, most-falls m k z y))
 
-  pub room-both : (j : ℕ) → j ≤ i + most (m - 1) (k - 1) → 3 * (j + most (m - 1) k) ≤ L
-  room-both j h = omega (arith, most-falls m k z y)
+  pub room-both : {m′ k′ j : ℕ} → j ≤ i + most (m - 1) k′ → k′ ≡ k - 1 → m′ ≡ m - 1 → 3 * (j + most m′ k) ≤ L
+  room-both h fewer less = rw less (omega (arith, most-falls m k z y, rw fewer at h))

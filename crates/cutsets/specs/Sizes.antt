@@ -14,7 +14,7 @@ use Rattle.model.specs.Laws.Lists.{flat-append, keep-append}
 use Rattle.model.specs.Laws.Appended.{Appended, appended-none, appended-more}
 use Rattle.theory.specs.Proofs.Subsets.{sizes-next}
 use Rattle.partsets.specs.Sets.{none-held}
-use Rattle.cutsets.specs.Search.{found, foundFrom, most, most-le, more-found, Searching}
+use Rattle.cutsets.specs.Search.{found, foundFrom, Stored, most, most-le, more-found, Searching}
 
 -- the sets of fewer than k parts that count
 unfoldable pub listedTo : ℕ → PartHealth → ℕ → ℕ → List (List Part)
@@ -37,10 +37,9 @@ module _ (n : ℕ) (H : PartHealth) (b : ℕ) where
       ∙ keep-append (minimal n H b) (sizesBelow k (furtherFaults n H)) (ofSize k (furtherFaults n H)))
 
   pub listed-more : (s : PartSet) (k i j : ℕ) (l l′ l″ : List ℕ) → Blank s → Appended (flatMap setBytes (listedTo n H b k)) l 0 l′ (3 * i)
-      → Appended (flatMap setBytes (foundFrom n H b s 0 k)) l′ (3 * i) l″ (3 * j)
-      → Appended (flatMap setBytes (listedTo n H b (k + 1))) l 0 l″ (3 * j)
+      → Stored n H b s 0 k l′ i l″ j → Appended (flatMap setBytes (listedTo n H b (k + 1))) l 0 l″ (3 * j)
   listed-more s k i j l l′ l″ e a c =
-      rw (listed-next s k e, flat-append setBytes (listedTo n H b k) (foundFrom n H b s 0 k)) (appended-more a c)
+      rw (listed-next s k e, flat-append setBytes (listedTo n H b k) (foundFrom n H b s 0 k)) (appended-more a (c .bytes))
 
   pub listed-start : (l : List ℕ) → Appended (flatMap setBytes (listedTo n H b 0)) l 0 l 0
   unfolding listedTo sizesBelow below keep flatMap
@@ -76,9 +75,9 @@ pub room-size : (n k i L : ℕ) → n ≤ 20 → k < 4 → i ≤ mostTo k → 10
 room-size n k i L h l r f = omega (arith, most-le (3 * n) 60 k (omega arith), most-next k l .1)
 
 pub more-listed : (n : ℕ) (H : PartHealth) (b : ℕ) (s : PartSet) (k i j : ℕ) (l l′ : List ℕ) → n ≤ 20 → k < 4 → i ≤ mostTo k
-    → Appended (flatMap setBytes (foundFrom n H b s 0 k)) l (3 * i) l′ (3 * j) → j ≤ mostTo (k + 1)
+    → Stored n H b s 0 k l i l′ j → j ≤ mostTo (k + 1)
 more-listed n H b s k i j l l′ h q r a =
-    omega (arith, more-found n H b s 0 (3 * n) k l l′ i j (omega arith) a, most-le (3 * n) 60 k (omega arith), most-next k q .0)
+    omega (arith, more-found (3 * n) a (omega arith), most-le (3 * n) 60 k (omega arith), most-next k q .0)
 
 pub searching-size : (n b : ℕ) (s : PartSet) (k : ℕ) → b < n → n ≤ 20 → k < 4 → Blank s → Searching n b s 0 (3 * n) k
 searching-size n b s k hb hn l e =

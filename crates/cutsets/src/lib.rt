@@ -9,7 +9,7 @@ ghost use Rattle.model.specs.Reports.{healthOf};
 ghost use Rattle.model.specs.Sheet.{written};
 ghost use Rattle.model.specs.CutSets.{setBytes, cutSets, cutSetsRefusal, refusedCutSets, cutSetsReply};
 ghost use Rattle.model.specs.Laws.Appended.{Appended};
-ghost use Rattle.cutsets.specs.Search.{most, Searching, foundFrom};
+ghost use Rattle.cutsets.specs.Search.{most, Searching, Stored};
 ghost use Rattle.cutsets.specs.Sheet.{headed, sheetReply};
 use model::CutSetsAnswer;
 use model::Health;
@@ -34,10 +34,7 @@ fn search(
     k: usize,
 ) -> usize
     requires { ⌜ Searching n b set p parts faults × (3 * (k + most parts faults) ≤ length (now buffer)) ⌝ }
-    ensures { λ r. ⌜
-        Appended (flatMap setBytes (foundFrom n (healthOf health) b set p faults))
-        (now (buffer .entry)) (3 * k) (now (buffer .exit)) (3 * r)
-        ⌝ }
+    ensures { λ r. ⌜ Stored n (healthOf health) b set p faults (now (buffer .entry)) k (now (buffer .exit)) r ⌝ }
 {
     if faults == 0 {
         if partsets::is_minimal(n, health, b, set) {

@@ -34,7 +34,7 @@ use Rattle.theory.specs.Theorems.Connected.{Arc, leads-arcs}
 use Rattle.theory.specs.Theorems.CutSets.{dark-exactly, Supplies, Disjoint, no-path, one-more-path, disjoint-faults}
 use Rattle.sources.specs.Sources.{mayFeed}
 use Rattle.walks.specs.Walk.{steps}
-use Rattle.outages.specs.Sides.{passable, Leading, Met, sidePaths, steps-some}
+use Rattle.outages.specs.Sides.{passable, Leading, Met, foundAt, sidePaths, steps-some}
 
 -- no set of fewer than k further faults leaves bus b dark; where k is 0, it is dark
 pub record Least (n : ℕ) (H : PartHealth) (b k : ℕ) : Type 0 where
@@ -153,34 +153,35 @@ module _ (n : ℕ) (H : PartHealth) (b : ℕ) (hb : b < n) where
 
   module _ (rise fall : ℕ) (up-side : Met n H true b rise) (down-side : Met n H false b fall) where
     side-paths : SidePaths (sidePaths n rise fall)
-    unfolding sidePaths
-    side-paths = go (dec-eq rise 0) (dec-eq fall 0) (dec-lt (rise + fall) n)
+    unfolding sidePaths foundAt
+    side-paths = go (dec-lt (rise + fall) n) (dec-eq rise 0) (dec-eq fall 0)
       where
-        go : (rise ≡ 0) ⊎ (rise ≢ 0) → (fall ≡ 0) ⊎ (fall ≢ 0) → (rise + fall < n) ⊎ (n ≤ rise + fall) → SidePaths (sidePaths n rise fall)
-        go (inl e) (inl f) z = rw (eq-eqb rise 0 e, eq-eqb fall 0 f) (record {
+        go : (rise + fall < n) ⊎ (n ≤ rise + fall) → (rise ≡ 0) ⊎ (rise ≢ 0) → (fall ≡ 0) ⊎ (fall ≢ 0) → SidePaths (sidePaths n rise fall)
+        go (inl l) (inl e) (inl f) = rw (lt-ltb (rise + fall) n l, eq-eqb rise 0 e, eq-eqb fall 0 f) (record {
           found = [];
           count = refl;
           apart = no-path;
           supplying = λ w m. absurd (List·Memᴰ·not-nil m);
         })
-        go (inl e) (inr f) z =
+        go (inl l) (inl e) (inr f) =
             let t = down-side .found (omega (arith, f)) in
-            rw (eq-eqb rise 0 e, ne-eqb fall 0 f) (one-path (pathTo b (t .0) true) (side-supplies false (t .0) (t .1), t .1 .other))
-        go (inr e) (inl f) z =
+            rw (lt-ltb (rise + fall) n l, eq-eqb rise 0 e, ne-eqb fall 0 f)
+            (one-path (pathTo b (t .0) true) (side-supplies false (t .0) (t .1), t .1 .other))
+        go (inl l) (inr e) (inl f) =
             let t = up-side .found (omega (arith, e)) in
-            rw (ne-eqb rise 0 e, eq-eqb fall 0 f) (one-path (pathTo b (t .0) false) (side-supplies true (t .0) (t .1), t .1 .other))
-        go (inr e) (inr f) (inl z) =
+            rw (lt-ltb (rise + fall) n l, ne-eqb rise 0 e, eq-eqb fall 0 f)
+            (one-path (pathTo b (t .0) false) (side-supplies true (t .0) (t .1), t .1 .other))
+        go (inl l) (inr e) (inr f) =
             let t = up-side .found (omega (arith, e)) in
             let u = down-side .found (omega (arith, f)) in
-            rw (ne-eqb rise 0 e, ne-eqb fall 0 f, lt-ltb (rise + fall) n z)
+            rw (lt-ltb (rise + fall) n l, ne-eqb rise 0 e, ne-eqb fall 0 f)
             (two-paths (pathTo b (t .0) false) (pathTo b (u .0) true)
             (side-supplies true (t .0) (t .1), t .1 .other)
             (side-supplies false (u .0) (u .1), u .1 .other)
             (sides-apart (t .0) (u .0) (t .1 .inside) (u .1 .inside) (t .1 .other) (omega (arith, t .2, u .2))))
-        go (inr e) (inr f) (inr z) =
-            let t = up-side .found (omega (arith, e)) in
-            rw (ne-eqb rise 0 e, ne-eqb fall 0 f, le-ltb (rise + fall) n z)
-            (one-path (pathTo b (t .0) false) (side-supplies true (t .0) (t .1), t .1 .other))
+        go (inr l) x y =
+            let t = up-side .found (omega (arith, down-side .short)) in
+            rw (le-ltb (rise + fall) n l) (one-path (pathTo b (t .0) false) (side-supplies true (t .0) (t .1), t .1 .other))
 
     -- with the bus's own generator
     pub least-own : (k : ℕ) → mayFeed H b ≡ true → k ≡ sidePaths n rise fall + 1 → Least n H b k
@@ -196,15 +197,14 @@ module _ (n : ℕ) (H : PartHealth) (b : ℕ) (hb : b < n) where
         }
 
     none-beside : sidePaths n rise fall ≡ 0 → (rise ≡ 0) × (fall ≡ 0)
-    unfolding sidePaths
-    none-beside z = go (dec-eq rise 0) (dec-eq fall 0) (dec-lt (rise + fall) n)
+    unfolding sidePaths foundAt
+    none-beside z = go (dec-lt (rise + fall) n) (dec-eq rise 0) (dec-eq fall 0)
       where
-        go : (rise ≡ 0) ⊎ (rise ≢ 0) → (fall ≡ 0) ⊎ (fall ≢ 0) → (rise + fall < n) ⊎ (n ≤ rise + fall) → (rise ≡ 0) × (fall ≡ 0)
-        go (inl e) (inl f) l = (e, f)
-        go (inl e) (inr f) l = absurd (omega (arith, rw (eq-eqb rise 0 e, ne-eqb fall 0 f) at z))
-        go (inr e) (inl f) l = absurd (omega (arith, rw (ne-eqb rise 0 e, eq-eqb fall 0 f) at z))
-        go (inr e) (inr f) (inl l) = absurd (omega (arith, rw (ne-eqb rise 0 e, ne-eqb fall 0 f, lt-ltb (rise + fall) n l) at z))
-        go (inr e) (inr f) (inr l) = absurd (omega (arith, rw (ne-eqb rise 0 e, ne-eqb fall 0 f, le-ltb (rise + fall) n l) at z))
+        go : (rise + fall < n) ⊎ (n ≤ rise + fall) → (rise ≡ 0) ⊎ (rise ≢ 0) → (fall ≡ 0) ⊎ (fall ≢ 0) → (rise ≡ 0) × (fall ≡ 0)
+        go (inl l) (inl e) (inl f) = (e, f)
+        go (inl l) (inl e) (inr f) = absurd (omega (arith, rw (lt-ltb (rise + fall) n l, eq-eqb rise 0 e, ne-eqb fall 0 f) at z))
+        go (inl l) (inr e) f = absurd (omega (arith, rw (lt-ltb (rise + fall) n l, ne-eqb rise 0 e) at z))
+        go (inr l) x y = absurd (omega (arith, rw (le-ltb (rise + fall) n l) at z))
 
     -- without it
     pub least-sides : (k : ℕ) → mayFeed H b ≡ false → k ≡ sidePaths n rise fall → Least n H b k

@@ -5,7 +5,7 @@ use mathlib.Core.Logic.{_⊎_, inl, inr, _≢_}
 use Prim.Native.Nat.{ℕ, zero, suc, _+_, _≤_, _<_}
 use native.Mathlib.Omega.{arith}
 use lib.Dec.{ltb, eqb}
-use borrow.Author.Tests.{not-true, eq-eqb, ne-eqb}
+use borrow.Author.Tests.{not-true, eq-eqb, ne-eqb, lt-ltb, le-ltb}
 use Rattle.model.specs.Plant.{PartHealth, busBreaker, stuckOpen, next, up}
 use Rattle.model.specs.Laws.Tests.{contra, not-of, dec-eq, dec-lt}
 use Rattle.theory.specs.Proofs.Geometry.{
@@ -181,7 +181,28 @@ module _ (n : ℕ) (H : PartHealth) (r : Bool) (b : ℕ) (hb : b < n) where
               contra (l .feeding) (rw (steps-only n b hb r g (busBeside n r k) (l .inside) (bus-lt n r k (w .at)) (z ∙ sym farther)) e)
           go g l (inr z) = omega (arith, w .past g l, z)
 
--- how many of the paths from the two sides have no part in common
+-- so many steps lead to a generator: 1, or there is none: 0
+unfoldable pub foundAt : ℕ → ℕ
+foundAt d = cond (eqb d 0) 0 1
+
+-- how many of the paths from the two sides have no part in common: they meet where together they are as long as the ring
 unfoldable pub sidePaths : ℕ → ℕ → ℕ → ℕ
-sidePaths n rise fall =
-    cond (eqb rise 0) (cond (eqb fall 0) 0 1) (cond (eqb fall 0) 1 (cond (ltb (rise + fall) n) 2 1))
+sidePaths n rise fall = cond (ltb (rise + fall) n) (foundAt rise + foundAt fall) 1
+
+-- .. by cases of the numbers: however the code words its tests
+pub found-test : (d r : ℕ) → (d ≡ 0 → r ≡ 0) → (d ≢ 0 → r ≡ 1) → r ≡ foundAt d
+unfolding foundAt
+found-test d r p q = go (dec-eq d 0)
+  where
+    go : (d ≡ 0) ⊎ (d ≢ 0) → r ≡ foundAt d
+    go (inl e) = rw (eq-eqb d 0 e) (p e)
+    go (inr e) = rw (ne-eqb d 0 e) (q e)
+
+pub side-test : (n rise fall r : ℕ) → (rise + fall < n → r ≡ foundAt rise + foundAt fall) → (n ≤ rise + fall → r ≡ 1)
+    → r ≡ sidePaths n rise fall
+unfolding sidePaths
+side-test n rise fall r apart meet = go (dec-lt (rise + fall) n)
+  where
+    go : (rise + fall < n) ⊎ (n ≤ rise + fall) → r ≡ sidePaths n rise fall
+    go (inl l) = rw (lt-ltb (rise + fall) n l) (apart l)
+    go (inr l) = rw (le-ltb (rise + fall) n l) (meet l)

@@ -5,7 +5,7 @@ ghost use Prim.Native.Nat.{_≤_, _<_};
 ghost use Rattle.model.specs.Lists.{isNone};
 ghost use Rattle.model.specs.Choosing.{plan};
 ghost use Rattle.model.specs.Reports.{healthOf};
-ghost use Rattle.outages.specs.Sides.{Met, sidePaths};
+ghost use Rattle.outages.specs.Sides.{Met, foundAt, sidePaths};
 ghost use Rattle.outages.specs.Least.{Least};
 use model::Health;
 use model::STUCK_OPEN;
@@ -32,21 +32,23 @@ fn steps_to_generator(n: usize, health: Health, b: usize, rising: bool) -> usize
     0
 }
 
-// How many paths lead to a bus from its two sides that have no part in common: two, where together they are shorter than the ring.
+// Whether so many steps lead to a generator, as a number.
+fn found(steps: usize) -> usize
+    ensures { λ r. ⌜ (r ≡ foundAt steps) × (r ≤ 1) ⌝ }
+{
+    if steps == 0 { 0 } else { 1 }
+}
+
+// How many paths lead to a bus from its two sides that have no part in common. Two that together are as long as the ring meet at one
+// generator.
 fn side_paths(n: usize, rise: usize, fall: usize) -> usize
     requires { ⌜ (rise < n) × (fall < n) × (n ≤ 20) ⌝ }
     ensures { λ r. ⌜ (r ≡ sidePaths n rise fall) × (r ≤ 2) ⌝ }
 {
-    if rise == 0 {
-        if fall == 0 {
-            return 0;
-        }
-        return 1;
+    if rise + fall < n {
+        return found(rise) + found(fall);
     }
-    if fall == 0 {
-        return 1;
-    }
-    if rise + fall < n { 2 } else { 1 }
+    1
 }
 
 // How many faults it takes at least to leave bus b dark: one for each path to it, of its own generator and from both sides, that has no

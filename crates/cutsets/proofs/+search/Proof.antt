@@ -83,8 +83,9 @@ returns : (t : ℕ) → search-lts.Need-returns (calls t) (search-at t) search�
 returns t c =
     let d = c .before .before .before .before in
     let a = d .before .before .before .before .args in
-    ends-one (a .n) (healthOf (a .health)) (a .b) (a .set) (a .p) (a .parts) (a .faults) (a .buffer .now) (a .k) _
-    (d .before .before .if1 .taken) (d .before .is-minimal .ensures) (d .if2 .taken) (c .before .before .put .ensures)
+    ends-one (a .n) (healthOf (a .health)) (a .b) (a .set) (a .p) (a .parts) (a .faults) (a .buffer .now) (a .k)
+    (d .before .before .if1 .taken) (d .before .is-minimal .ensures) (d .if2 .taken) (c .before .before .put .ensures) (omega arith)
+    (omega arith)
 
 returns-2 : (t : ℕ) → search-lts.Need-returns-2 (calls t) (search-at t) search′.Post
 returns-2 t c =
@@ -123,8 +124,8 @@ search-requires t c κs =
     let y = some-parts t d in (
       omega (arith, s .pre .0, z, y),
       (
-        taken-on (s .pre .1 .0) _ (full t s) z y (c .before .with-place .ensures),
-        room-taken (a .parts) (a .faults) (a .k) _ z y (s .pre .1 .1),
+        taken-on (s .pre .1 .0) _ (full t s) z y (c .before .with-place .ensures) (omega arith) (omega arith) (omega arith),
+        room-taken (a .parts) (a .faults) (a .k) _ z y (s .pre .1 .1) (omega arith) (omega arith),
       ),
     )
 
@@ -139,13 +140,12 @@ search-requires-2 t c κs =
     let f = c .before .before .before .search in (
       omega (arith, s .pre .0, y),
       (
-        passed-on g y,
+        passed-on g y (omega arith) (omega arith),
         omega (
           arith,
           f .kept,
-          room-both (a .parts) (a .faults) (a .k) _ z y (s .pre .1 .1) (f .result)
-              (more-found (a .n) (healthOf (a .health)) (a .b) _ (a .p + 1) (a .parts - 1) (a .faults - 1) _ _ (a .k) (f .result)
-              (passed-on g y .rest) (f .ensures)),
+          room-both (a .parts) (a .faults) (a .k) _ z y (s .pre .1 .1) {m′ = a .parts - 1} (more-found (a .parts - 1) (f .ensures) (omega (arith, g .rest)))
+              (omega arith) (omega arith),
         ),
       ),
     )
@@ -159,9 +159,10 @@ returns-5 t c =
     let z = some-faults t d in
     let w = e .with-place in
     let few : a .set .count < 3 = omega (arith, s .pre .1 .0 .spend, z) in
-    ends-both (a .n) (healthOf (a .health)) (a .b) (a .set) (a .p) (a .parts) (a .faults) (a .buffer .now) (a .k) (w .result) _ _ _ _
+    ends-both (a .n) (healthOf (a .health)) (a .b) (a .set) (a .p) (a .parts) (a .faults) (a .buffer .now) (a .k)
     (full t s) few z (some-parts t d) (s .pre .1 .0 .rest) (sym (e .before .before .can-fail .ensures) ∙ e .before .if5 .taken) (w .ensures)
     (c .before .before .before .before .before .before .search .ensures) (c .before .before .search2 .ensures)
+    (omega arith) (omega arith) (omega arith) (omega arith)
 
 search-requires-3 : (t : ℕ) → search-lts.Need-search-requires-3 (calls t) (search-at t) search′.Post
 search-requires-3 t c κs =
@@ -170,7 +171,10 @@ search-requires-3 t c κs =
     let a = s .args in
     let y = some-parts t d in (
       omega (arith, s .pre .0, y),
-      (passed-on (s .pre .1 .0) y, room-passed (a .parts) (a .faults) (a .k) _ (some-faults t d) y (s .pre .1 .1)),
+      (
+        passed-on (s .pre .1 .0) y (omega arith) (omega arith),
+        room-passed (a .parts) (a .faults) (a .k) _ (some-faults t d) y (s .pre .1 .1) (omega arith),
+      ),
     )
 
 returns-6 : (t : ℕ) → search-lts.Need-returns-6 (calls t) (search-at t) search′.Post
@@ -179,8 +183,8 @@ returns-6 t c =
     let d = e .before .before in
     let s = start t d in
     let a = s .args in
-    ends-passed (a .n) (healthOf (a .health)) (a .b) (a .set) (a .p) (a .parts) (a .faults) (a .buffer .now) (a .k) _ _ (some-parts t d)
-    (s .pre .1 .0 .rest) (sym (e .before .can-fail .ensures) ∙ e .if5 .left) (c .before .before .search3 .ensures)
+    ends-passed (a .n) (healthOf (a .health)) (a .b) (a .set) (a .p) (a .parts) (a .faults) (a .buffer .now) (a .k) (some-parts t d)
+    (s .pre .1 .0 .rest) (sym (e .before .can-fail .ensures) ∙ e .if5 .left) (c .before .before .search3 .ensures) (omega arith)
 
 pub +search-spec : {M : Type 1} → statement M
 +search-spec = close μ-search λ t. search-lts.spec (calls t)
