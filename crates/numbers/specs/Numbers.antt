@@ -9,6 +9,7 @@ use lib.ListN.{length, length-append}
 use borrow.Author.Tests.{lt-ltb, le-ltb}
 use Rattle.model.specs.Text.{digits, decimal}
 use Rattle.model.specs.Laws.Tests.{dec-lt}
+use Rattle.model.specs.Laws.Appended.{Appended}
 
 -- more digits than the number has change nothing
 enough : (d e k : ℕ) → k < d → k < e → digits d k ≡ digits e k
@@ -31,6 +32,10 @@ pub decimal-more : (k : ℕ) → 10 ≤ k → decimal k ≡ decimal (k / 10) ++ 
 unfolding decimal digits
 decimal-more k h = rw (le-ltb k 10 h, enough k (suc (k / 10)) (k / 10) (omega arith) (omega arith))
 
+-- .. however both are said
+pub decimal-last : (k q x : ℕ) → 10 ≤ k → q ≡ k / 10 → x ≡ code "0" + k % 10 → decimal k ≡ decimal q ++ (x ∷ [])
+decimal-last k q x h e f = rw (e, f) (decimal-more k h)
+
 -- a number below a power of ten has at most that many digits
 pub decimal-length : (d k : ℕ) → k < 10 ^ suc d → length (decimal k) ≤ suc d
 decimal-length zero k h = rw (decimal-digit k (omega arith)) (omega arith)
@@ -39,6 +44,10 @@ decimal-length (suc d) k h = go (decimal-length d (k / 10) (omega arith)) (dec-l
     go : length (decimal (k / 10)) ≤ suc d → (k < 10) ⊎ (10 ≤ k) → length (decimal k) ≤ suc (suc d)
     go r (inl p) = rw (decimal-digit k p) (omega arith)
     go r (inr p) = rw (decimal-more k p, length-append) (omega arith)
+
+-- .. and ends no further behind its place
+pub decimal-end : (d k : ℕ) {l l′ : List ℕ} {i j : ℕ} → Appended (decimal k) l i l′ j → k < 10 ^ suc d → j ≤ i + suc d
+decimal-end d k a h = omega (arith, a .end, decimal-length d k h)
 
 -- ---- a number and the byte behind it
 

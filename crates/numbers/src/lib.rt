@@ -49,3 +49,16 @@ pub fn append_number(k: usize, out: &mut [u8], at: usize) -> usize
     out[end] = last;
     end + 1
 }
+
+// A number of at most five digits: the number of its tens, then its last digit.
+pub fn append_large(k: usize, out: &mut [u8], at: usize) -> usize
+    requires { ⌜ (k < 100000) × (at + 5 ≤ length (now out)) ⌝ }
+    ensures { λ r. ⌜ Appended (decimal k) (now (out .entry)) at (now (out .exit)) r ⌝ }
+{
+    if k < 10000 {
+        return append_number(k, out, at);
+    }
+    let end = append_number(k / 10, out, at);
+    out[end] = b'0' + (k % 10) as u8;
+    end + 1
+}
