@@ -20,7 +20,7 @@ use Rattle.model.specs.Text.{ascii, decimal, spaced, kindName, partName, phaseT
 use Rattle.model.specs.Laws.Tests.{dec-eq}
 use Rattle.model.specs.Lists.{_∈_}
 use Rattle.model.specs.Laws.Parts.{index-suc}
-use Rattle.numbers.specs.Numbers.{marked, marked-length}
+use Rattle.numbers.specs.Numbers.{marked, decimal-length}
 use Rattle.model.specs.Laws.Spaced.{behindSpaces, behind-spaced, behind-one}
 
 -- ---- definitions
@@ -33,9 +33,17 @@ kindOf c = cond (ltb c 32) (ascii "G") (cond (ltb c 64) (ascii "GB") (ascii "BB"
 abbrev pub sign : ℕ → ℕ
 sign v = cond (eqb v 0) (code "-") (code "+")
 
+-- the name of the part that has a code
+unfoldable pub nameOf : ℕ → List ℕ
+nameOf c = kindOf c ++ decimal (c % 32 + 1)
+
+-- .. and the byte behind it
+abbrev pub markedName : ℕ → ℕ → List ℕ
+markedName c mark = nameOf c ++ (mark ∷ [])
+
 -- an operation: the part of a code and the sign of its command
-unfoldable pub operationText : ℕ → ℕ → List ℕ
-operationText c v = kindOf c ++ marked (c % 32 + 1) (sign v)
+abbrev pub operationText : ℕ → ℕ → List ℕ
+operationText c v = markedName c (sign v)
 
 -- the texts of a phase's operations, a lone `-` where there are none
 unfoldable pub operationsText : List (List ℕ) → List ℕ
@@ -63,22 +71,17 @@ module _ (n : ℕ) (h : n ≤ largest) where
   numbered (GeneratorBreaker k) r = omega (arith, index-suc k (r .0))
   numbered (BusBreaker k) r = omega (arith, index-suc k (r .0))
 
+  pub part-name : (p : Part) → InRing n p → nameOf (partCode p) ≡ partName p
+  unfolding nameOf
+  part-name p m = rw (kind p m, numbered p m)
+
   -- the parts of a phase, whose commands are all v
   module _ (v : ℕ) (s : String) (e : ascii s ≡ sign v ∷ []) where
     operations : (ps : List Part) → ((p : Part) → p ∈ ps → InRing n p)
         → zipWith operationText (map partCode ps) (map (λ p. v) ps) ≡ map (λ p. partName p ++ ascii s) ps
-    unfolding zipWith operationText
+    unfolding zipWith
     operations [] r = refl
-    operations (p ∷ ps) r =
-        let m = r p (List·Memᴰ·head refl) in
-        rw (
-          operations ps (λ q k. r q (List·Memᴰ·tail k)),
-          kind p m,
-          numbered p m,
-          e,
-          append-assoc (kindName p) (decimal (number p))
-              (sign v ∷ []),
-        )
+    operations (p ∷ ps) r = rw (operations ps (λ q k. r q (List·Memᴰ·tail k)), part-name p (r p (List·Memᴰ·head refl)), e)
 
     phase : (ps : List Part) → ((p : Part) → p ∈ ps → InRing n p) → phaseOf (map partCode ps) (map (λ p. v) ps) ≡ phaseText s ps
     unfolding phaseOf phaseText operationsText
@@ -94,6 +97,11 @@ module _ (n : ℕ) (h : n ≤ largest) where
   closing-parts = phase 1 "+" refl
 
 -- ---- one operation after the other
+
+-- a name as it is appended: its kind, then its number with the byte behind it
+pub marked-name : (c mark : ℕ) → markedName c mark ≡ kindOf c ++ marked (c % 32 + 1) mark
+unfolding nameOf
+marked-name c mark = append-assoc (kindOf c) (decimal (c % 32 + 1)) (mark ∷ [])
 
 -- one more of each
 zip-one : {A B C : Type 0} (f : A → B → C) (xs : List A) (ys : List B) (x : A) (y : B) → length xs ≡ length ys
@@ -156,19 +164,24 @@ kind-length c = go (ltb c 32) (ltb c 64)
     go false true = omega arith
     go false false = omega arith
 
--- ` BB20+` is the longest
+-- `BB20` is the longest
+name-length : (c : ℕ) → length (nameOf c) ≤ 4
+unfolding nameOf
+name-length c =
+    omega (arith, length-append (kindOf c) (decimal (c % 32 + 1)), kind-length c, decimal-length 1 (c % 32 + 1) (omega arith))
+
+pub marked-name-length : (c mark : ℕ) → length (markedName c mark) ≤ 5
+marked-name-length c mark = omega (arith, length-append (nameOf c) (mark ∷ []), name-length c)
+
 pub operations-length : (codes commands : List ℕ) → length (behindSpaces (zipWith operationText codes commands)) ≤ 6 * length codes
-unfolding behindSpaces zipWith operationText
+unfolding behindSpaces zipWith
 operations-length [] commands = omega arith
 operations-length (c ∷ codes) [] = omega arith
 operations-length (c ∷ codes) (v ∷ commands) =
     omega (
       arith,
       length-append (operationText c v) (behindSpaces (zipWith operationText codes commands)),
-      length-append (kindOf c)
-          (marked (c % 32 + 1) (sign v)),
-      kind-length c,
-      marked-length (c % 32 + 1) (sign v) (omega arith),
+      marked-name-length c (sign v),
       operations-length codes commands,
     )
 

@@ -7,7 +7,7 @@ ghost use lib.ListN.{length};
 ghost use Rattle.model.specs.Text.{ascii};
 ghost use Rattle.model.specs.Laws.Appended.{Appended};
 ghost use Rattle.model.specs.Laws.Spaced.{behindSpaces};
-ghost use Rattle.operations.specs.Operations.{kindOf, sign as signOf, operationText, phaseOf};
+ghost use Rattle.operations.specs.Operations.{kindOf, markedName, sign as signOf, operationText, phaseOf};
 use numbers::append_marked;
 
 // A part's kind by its code: `G`, `GB` or `BB`.
@@ -29,6 +29,15 @@ fn append_kind(code: u8, out: &mut [u8], at: usize) -> usize
     at + 2
 }
 
+// The name of a code's part, and the byte behind it: `GB1+`.
+pub fn append_part(code: u8, mark: u8, out: &mut [u8], at: usize) -> usize
+    requires { ⌜ at + 5 ≤ length (now out) ⌝ }
+    ensures { λ r. ⌜ Appended (markedName code mark) (now (out .entry)) at (now (out .exit)) r ⌝ }
+{
+    let number = append_kind(code, out, at);
+    append_marked(code % 32 + 1, mark, out, number)
+}
+
 // "`+` is on or closed, a trailing `-` off or open"
 fn sign(command: u8) -> u8
     ensures { λ r. ⌜ r ≡ signOf command ⌝ }
@@ -42,8 +51,7 @@ fn append_operation(code: u8, command: u8, out: &mut [u8], at: usize) -> usize
     ensures { λ r. ⌜ Appended (ascii " " ++ operationText code command) (now (out .entry)) at (now (out .exit)) r ⌝ }
 {
     out[at] = b' ';
-    let number = append_kind(code, out, at + 1);
-    append_marked(code % 32 + 1, sign(command), out, number)
+    append_part(code, sign(command), out, at + 1)
 }
 
 // The operations of a phase, each behind a space.
