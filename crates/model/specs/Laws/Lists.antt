@@ -37,6 +37,12 @@ all-cons {xs = xs} {x} P p r y m = go (List·Memᴰ·cases-cons m)
     go (inl e) = rw e p
     go (inr e) = r y e
 
+-- what stands at an index
+pub at-in : {A : Type 0} (xs : List A) (i : ℕ) (d : A) → i < length xs → getD xs i d ∈ xs
+at-in [] i d h = absurd (omega arith)
+at-in (x ∷ xs) zero d h = List·Memᴰ·head refl
+at-in (x ∷ xs) (suc i) d h = List·Memᴰ·tail (at-in xs i d (omega arith))
+
 -- ---- below
 
 pub below-in : (n i : ℕ) → i < n → i ∈ below n

@@ -1,11 +1,11 @@
--- Texts with a space between each two, as a loop appends them: each behind a space.
+-- Texts as a loop appends them: with a space between each two, each behind a space; and one after the other.
 use mathlib.Core.Path.{_≡_, refl, ap}
 use mathlib.Core.List.{List, [], _∷_, _++_, append-assoc, append-nil, List·Memᴰ·head, List·Memᴰ·tail}
 use Prim.Native.Nat.{ℕ, _+_, _*_, _≤_, _<_}
 use Prim.Native.Char.{code}
 use native.Mathlib.Omega.{arith}
 use lib.ListN.{length, length-append}
-use Rattle.model.specs.Text.{ascii, spaced}
+use Rattle.model.specs.Text.{ascii, spaced, joined}
 use Rattle.model.specs.Lists.{_∈_}
 
 -- each text behind a space
@@ -30,3 +30,17 @@ unfolding behindSpaces
 behind-length m [] h = omega arith
 behind-length m (t ∷ ts) h =
     omega (arith, length-append t (behindSpaces ts), h t (List·Memᴰ·head refl), behind-length m ts (λ u k. h u (List·Memᴰ·tail k)))
+
+-- ---- one after the other
+
+-- one text more
+pub joined-one : (ts : List (List ℕ)) (t : List ℕ) → joined (ts ++ (t ∷ [])) ≡ joined ts ++ t
+unfolding joined
+joined-one [] t = append-nil t
+joined-one (u ∷ ts) t = rw (joined-one ts t, append-assoc)
+
+pub joined-length : (m : ℕ) (ts : List (List ℕ)) → ((t : List ℕ) → t ∈ ts → length t ≤ m) → length (joined ts) ≤ m * length ts
+unfolding joined
+joined-length m [] h = omega arith
+joined-length m (t ∷ ts) h =
+    omega (arith, length-append t (joined ts), h t (List·Memᴰ·head refl), joined-length m ts (λ u k. h u (List·Memᴰ·tail k)))

@@ -1,0 +1,2 @@
+-- The laws of a bus's cut sets as text.
+pub mod Sets

@@ -1,0 +1,245 @@
+-- The text of a bus's minimal cut sets made from the bytes of their sheet: a count of two bytes, then three bytes a set.
+use mathlib.Core.Path.{_≡_, refl, sym, _∙_, ap}
+use mathlib.Core.Bool.{false, cond}
+use mathlib.Core.Logic.{_⊎_, inl, inr, _≢_}
+use mathlib.Core.List.{List, [], _∷_, _++_, map, flatMap, map-append, append-assoc, List·Memᴰ·head, List·Memᴰ·tail}
+use Prim.Native.Nat.{ℕ, zero, suc, _+_, _*_, _/_, _%_, _≤_, _<_}
+use Prim.Native.Char.{code}
+use native.Mathlib.Nat.{zero-add}
+use native.Mathlib.Numerals.{add-one}
+use native.Mathlib.Omega.{arith}
+use lib.Dec.{eqb}
+use lib.ListN.{length, getD, take, length-append, length-map, List·getD-append, List·getD-map}
+use lib.Seq.{length-take-le, getD-append-add, ext-getD}
+use borrow.Author.Tests.{eq-eqb, ne-eqb}
+use Rattle.model.specs.declared.Part.{Part}
+use Rattle.model.specs.declared.Part.the-variants.{Generator, GeneratorBreaker, BusBreaker}
+use Rattle.model.specs.Lists.{below, _∈_}
+use Rattle.model.specs.Values.{partCode}
+use Rattle.model.specs.Plant.{largest, InRing}
+use Rattle.model.specs.CutSets.{setBytes, cutSheet}
+use Rattle.model.specs.Text.{ascii, decimal, spaced, joined, partName}
+use Rattle.model.specs.CutText.{setLine, countLine, cutText}
+use Rattle.model.specs.Laws.Tests.{dec-eq}
+use Rattle.model.specs.Laws.Lists.{at-in, below-length, map-below-at, map-at}
+use Rattle.model.specs.Laws.Parts.{index-suc}
+use Rattle.model.specs.Laws.Appended.{Appended, appended-more}
+use Rattle.model.specs.Laws.Spaced.{joined-one, joined-length}
+use Rattle.numbers.specs.Numbers.{marked, decimal-length}
+use Rattle.operations.specs.Operations.{nameOf, markedName, marked-name-length, part-name}
+
+-- ---- definitions
+
+-- the part codes among a set's bytes: those before the first 255
+unfoldable pub used : List ℕ → List ℕ
+used [] = []
+used (c ∷ cs) = let rest = used cs in cond (eqb c 255) [] (c ∷ rest)
+
+-- the line of the parts that have these codes; a lone `-` where there are none
+unfoldable pub codesLine : List ℕ → List ℕ
+codesLine [] = ascii "-\n"
+codesLine (c ∷ cs) = spaced (map nameOf (c ∷ cs)) ++ ascii "\n"
+
+-- the line of a set's three bytes
+unfoldable pub bytesLine : ℕ → ℕ → ℕ → List ℕ
+bytesLine a b c = codesLine (used (a ∷ b ∷ c ∷ []))
+
+-- .. of those from an index on
+unfoldable pub lineFrom : List ℕ → ℕ → List ℕ
+lineFrom bytes k = bytesLine (getD bytes k 0) (getD bytes (suc k) 0) (getD bytes (suc (suc k)) 0)
+
+-- the lines of the first k sets
+unfoldable pub linesOf : List ℕ → ℕ → List ℕ
+linesOf bytes k = joined (map (λ i. lineFrom bytes (2 + 3 * i)) (below k))
+
+-- the text of a bus that has this many sets
+unfoldable pub textOf : ℕ → ℕ → List ℕ → List ℕ
+textOf bus count bytes = countLine bus count ++ linesOf bytes count
+
+-- ---- one set, as it is appended
+
+-- a part's name and the byte behind it, by the code behind the part's: a space, or a line feed behind the last part
+unfoldable pub nameBefore : ℕ → ℕ → List ℕ
+nameBefore c d = markedName c (cond (eqb d 255) (code "\n") (code " "))
+
+pub before-unused : (c d : ℕ) → d ≡ 255 → nameBefore c d ≡ markedName c (code "\n")
+unfolding nameBefore
+before-unused c d e = rw (eq-eqb d 255 e)
+
+pub before-part : (c d : ℕ) → d ≢ 255 → nameBefore c d ≡ markedName c (code " ")
+unfolding nameBefore
+before-part c d e = rw (ne-eqb d 255 e)
+
+-- a set of no part, of one, of two and of three
+pub line-none : (a b c : ℕ) → a ≡ 255 → bytesLine a b c ≡ ascii "-\n"
+unfolding bytesLine used codesLine
+line-none a b c e = rw (eq-eqb a 255 e)
+
+module _ (a b c : ℕ) (ne : a ≢ 255) where
+  pub line-one : b ≡ 255 → bytesLine a b c ≡ nameBefore a b
+  unfolding bytesLine nameBefore used codesLine spaced ascii
+  line-one e = rw (ne-eqb a 255 ne, eq-eqb b 255 e)
+
+  module _ (ne′ : b ≢ 255) where
+    pub line-two : c ≡ 255 → bytesLine a b c ≡ nameBefore a b ++ nameBefore b c
+    unfolding bytesLine nameBefore used codesLine spaced ascii
+    line-two e = rw (ne-eqb a 255 ne, ne-eqb b 255 ne′, eq-eqb c 255 e) (simp append-assoc)
+
+    pub line-three : c ≢ 255 → bytesLine a b c ≡ nameBefore a b ++ nameBefore b c ++ nameBefore c 255
+    unfolding bytesLine nameBefore used codesLine spaced ascii
+    line-three ne″ = rw (ne-eqb a 255 ne, ne-eqb b 255 ne′, ne-eqb c 255 ne″) (simp append-assoc)
+
+-- ---- one set after the other
+
+pub lines-none : (bytes : List ℕ) → linesOf bytes 0 ≡ []
+unfolding linesOf joined below
+lines-none bytes = refl
+
+-- one set more
+pub lines-more : (bytes : List ℕ) (i first : ℕ) {l l′ l″ : List ℕ} {at j k : ℕ} → first ≡ 2 + 3 * i
+    → Appended (linesOf bytes i) l at l′ j → Appended (lineFrom bytes first) l′ j l″ k → Appended (linesOf bytes (i + 1)) l at l″ k
+unfolding linesOf below
+lines-more bytes i first e before next =
+    rw (add-one, map-append, joined-one (map (λ j. lineFrom bytes (2 + 3 * j)) (below i)) (lineFrom bytes (2 + 3 * i)), ← e)
+    (appended-more before next)
+
+-- ---- the bus's line, as it is appended
+
+pub count-parts : (bus count : ℕ) → countLine bus count ≡ ascii "B" ++ marked bus (code " ") ++ decimal count ++ ascii "\n"
+unfolding countLine ascii
+count-parts bus count = simp append-assoc
+
+-- ---- lengths
+
+name-before-length : (c d : ℕ) → length (nameBefore c d) ≤ 5
+unfolding nameBefore
+name-before-length c d = marked-name-length c _
+
+pub name-before-end : (c d : ℕ) {l l′ : List ℕ} {i j : ℕ} → Appended (nameBefore c d) l i l′ j → j ≤ i + 5
+name-before-end c d a = omega (arith, a .end, name-before-length c d)
+
+-- `BB20 BB20 BB20` and a line feed is the longest
+line-length : (a b c : ℕ) → length (bytesLine a b c) ≤ 15
+unfolding ascii
+line-length a b c = go (dec-eq a 255) (dec-eq b 255) (dec-eq c 255)
+  where
+    two : length (nameBefore a b ++ nameBefore b c) ≤ 10
+    two = omega (arith, length-append (nameBefore a b) (nameBefore b c), name-before-length a b, name-before-length b c)
+
+    go : (a ≡ 255) ⊎ (a ≢ 255) → (b ≡ 255) ⊎ (b ≢ 255) → (c ≡ 255) ⊎ (c ≢ 255) → length (bytesLine a b c) ≤ 15
+    go (inl e) q r = rw (line-none a b c e) (omega arith)
+    go (inr p) (inl e) r = rw (line-one a b c p e) (omega (arith, name-before-length a b))
+    go (inr p) (inr q) (inl e) = rw (line-two a b c p q e) (omega (arith, two))
+    go (inr p) (inr q) (inr r) =
+        rw (line-three a b c p q r)
+        (omega (arith, length-append (nameBefore a b ++ nameBefore b c) (nameBefore c 255), two, name-before-length c 255))
+
+pub lines-length : (bytes : List ℕ) (k : ℕ) → length (linesOf bytes k) ≤ 15 * k
+unfolding linesOf lineFrom
+lines-length bytes k = omega (arith, joined-length 15 (map f (below k)) each, length-map (below k) f, below-length k)
+  where
+    f : ℕ → List ℕ
+    f i = lineFrom bytes (2 + 3 * i)
+
+    each : (t : List ℕ) → t ∈ map f (below k) → length t ≤ 15
+    each t m = let x = map-at f (below k) m in rw (x .2) (line-length _ _ _)
+
+pub count-length : (bus count : ℕ) → bus < 100 → count < 100000 → length (countLine bus count) ≤ 10
+unfolding countLine ascii
+count-length bus count h l =
+    omega (
+      arith,
+      length-append (decimal bus) (ascii " " ++ (decimal count ++ ascii "\n")),
+      length-append (decimal count) (ascii "\n"),
+      decimal-length 1 bus h,
+      decimal-length 4 count l,
+    )
+
+pub text-length : (bus count : ℕ) (bytes : List ℕ) → bus < 100 → count < 100000 → length (textOf bus count bytes) ≤ 10 + 15 * count
+unfolding textOf
+text-length bus count bytes h l =
+    omega (arith, length-append (countLine bus count) (linesOf bytes count), count-length bus count h l, lines-length bytes count)
+
+-- ---- the text of a sheet is the model's
+
+set-bytes : (S : List Part) → length (setBytes S) ≡ 3
+unfolding setBytes
+set-bytes S = length-take-le 3 (map partCode S ++ (255 ∷ 255 ∷ 255 ∷ [])) (simp length-append (omega arith))
+
+-- byte j of set i, behind the count ..
+byte-at : (sets : List (List Part)) (rest : List ℕ) (i j : ℕ) → i < length sets → j < 3
+    → getD (flatMap setBytes sets ++ rest) (3 * i + j) 0 ≡ getD (setBytes (getD sets i [])) j 0
+unfolding flatMap
+byte-at [] rest i j h l = absurd (omega arith)
+byte-at (S ∷ sets) rest zero j h l =
+    rw (zero-add, append-assoc) (List·getD-append (setBytes S) (flatMap setBytes sets ++ rest) 0 j (omega (arith, set-bytes S)))
+byte-at (S ∷ sets) rest (suc i) j h l =
+    let e : 3 * suc i + j ≡ length (setBytes S) + (3 * i + j) = omega (arith, set-bytes S) in
+    rw (e, append-assoc)
+    (getD-append-add (setBytes S) (flatMap setBytes sets ++ rest) (3 * i + j) 0 ∙ byte-at sets rest i j (omega arith) l)
+
+-- .. and in the sheet
+sheet-byte : (sets : List (List Part)) (rest : List ℕ) (i j k : ℕ) → i < length sets → j < 3 → k ≡ 2 + 3 * i + j
+    → getD (cutSheet sets ++ rest) k 0 ≡ getD (setBytes (getD sets i [])) j 0
+unfolding cutSheet
+sheet-byte sets rest i j k h l e =
+    let z : k ≡ 2 + (3 * i + j) = omega arith in
+    rw z
+    (getD-append-add ((length sets % 256) ∷ (length sets / 256) ∷ []) (flatMap setBytes sets ++ rest) (3 * i + j) 0
+    ∙ byte-at sets rest i j h l)
+
+-- a set of at most three parts of a ring of n
+abbrev pub Few : ℕ → List Part → Type 0
+Few n S = (length S ≤ 3) × ((p : Part) → p ∈ S → InRing n p)
+
+module _ (n : ℕ) (h : n ≤ largest) where
+  -- no part's code says unused
+  other-code : (p : Part) → InRing n p → partCode p ≢ 255
+  unfolding partCode
+  other-code (Generator k) r e = omega (arith, index-suc k (r .0))
+  other-code (GeneratorBreaker k) r e = omega (arith, index-suc k (r .0))
+  other-code (BusBreaker k) r e = omega (arith, index-suc k (r .0))
+
+  -- so that it gives the part's name
+  named : (p : Part) → InRing n p → (eqb (partCode p) 255 ≡ false) × (nameOf (partCode p) ≡ partName p)
+  named p m = (ne-eqb (partCode p) 255 (other-code p m), part-name n h p m)
+
+  set-line : (S : List Part) → Few n S → bytesLine (getD (setBytes S) 0 0) (getD (setBytes S) 1 0) (getD (setBytes S) 2 0) ≡ setLine S
+  unfolding setBytes bytesLine used codesLine setLine
+  set-line [] f = refl
+  set-line (p ∷ []) f = let a = named p (f .1 p (List·Memᴰ·head refl)) in rw (a .0, a .1)
+  set-line (p ∷ q ∷ []) f =
+      let a = named p (f .1 p (List·Memᴰ·head refl)) in
+      let b = named q (f .1 q (List·Memᴰ·tail (List·Memᴰ·head refl))) in
+      rw (a .0, b .0, a .1, b .1)
+  set-line (p ∷ q ∷ r ∷ []) f =
+      let a = named p (f .1 p (List·Memᴰ·head refl)) in
+      let b = named q (f .1 q (List·Memᴰ·tail (List·Memᴰ·head refl))) in
+      let c = named r (f .1 r (List·Memᴰ·tail (List·Memᴰ·tail (List·Memᴰ·head refl)))) in
+      rw (a .0, b .0, c .0, a .1, b .1, c .1)
+  set-line (p ∷ q ∷ r ∷ s ∷ S) f = absurd (omega (arith, f .0))
+
+  module _ (sets : List (List Part)) (few : (S : List Part) → S ∈ sets → Few n S) (rest : List ℕ) where
+    line-is : (i : ℕ) → i < length sets → lineFrom (cutSheet sets ++ rest) (2 + 3 * i) ≡ setLine (getD sets i [])
+    unfolding lineFrom
+    line-is i l =
+        rw (
+          sheet-byte sets rest i 0 (2 + 3 * i) l (omega arith) (omega arith),
+          sheet-byte sets rest i 1 (suc (2 + 3 * i)) l (omega arith) (omega arith),
+          sheet-byte sets rest i 2 (suc (suc (2 + 3 * i))) l (omega arith) (omega arith),
+        )
+        (set-line (getD sets i []) (few _ (at-in sets i [] l)))
+
+    -- whatever stands behind the sheet
+    pub cut-text : (bus : ℕ) → textOf bus (length sets) (cutSheet sets ++ rest) ≡ cutText bus sets
+    unfolding textOf linesOf cutText
+    cut-text bus = ap (λ ts. countLine bus (length sets) ++ joined ts) all
+      where
+        f : ℕ → List ℕ
+        f i = lineFrom (cutSheet sets ++ rest) (2 + 3 * i)
+
+        all : map f (below (length sets)) ≡ map setLine sets
+        all =
+            ext-getD (setLine []) _ _ (simp (length-map, below-length))
+            (λ i b. let l : i < length sets = rw (length-map, below-length) at b in
+            map-below-at f (length sets) i (setLine []) l ∙ (line-is i l ∙ sym (List·getD-map setLine sets i [])))
