@@ -23,7 +23,7 @@ use Rattle.model.specs.CutText.{setLine, countLine, cutText}
 use Rattle.model.specs.Laws.Tests.{dec-eq}
 use Rattle.model.specs.Laws.Lists.{at-in, below-length, map-below-at, map-at}
 use Rattle.model.specs.Laws.Parts.{index-suc}
-use Rattle.model.specs.Laws.Appended.{Appended, appended-more}
+use Rattle.model.specs.Laws.Appended.{Appended, appended-none, appended-more}
 use Rattle.model.specs.Laws.Spaced.{joined-one, joined-length}
 use Rattle.numbers.specs.Numbers.{marked, decimal-length}
 use Rattle.operations.specs.Operations.{nameOf, markedName, marked-name-length, part-name}
@@ -91,9 +91,9 @@ module _ (a b c : ℕ) (ne : a ≢ 255) where
 
 -- ---- one set after the other
 
-pub lines-none : (bytes : List ℕ) → linesOf bytes 0 ≡ []
+pub lines-none : (bytes : List ℕ) (i : ℕ) {l : List ℕ} {at : ℕ} → i ≡ 0 → Appended (linesOf bytes i) l at l at
 unfolding linesOf joined below
-lines-none bytes = refl
+lines-none bytes i e = rw e (appended-none _ _)
 
 -- one set more
 pub lines-more : (bytes : List ℕ) (i first : ℕ) {l l′ l″ : List ℕ} {at j k : ℕ} → first ≡ 2 + 3 * i
@@ -103,11 +103,24 @@ lines-more bytes i first e before next =
     rw (add-one, map-append, joined-one (map (λ j. lineFrom bytes (2 + 3 * j)) (below i)) (lineFrom bytes (2 + 3 * i)), ← e)
     (appended-more before next)
 
--- ---- the bus's line, as it is appended
+-- ---- the bus's line and the whole text, as they are appended
 
-pub count-parts : (bus count : ℕ) → countLine bus count ≡ ascii "B" ++ marked bus (code " ") ++ decimal count ++ ascii "\n"
+abbrev countParts : ℕ → ℕ → List ℕ
+countParts bus count = ascii "B" ++ marked bus (code " ") ++ decimal count ++ ascii "\n"
+
+count-line : (bus count : ℕ) → countLine bus count ≡ countParts bus count
 unfolding countLine ascii
-count-parts bus count = simp append-assoc
+count-line bus count = simp append-assoc
+
+-- from numbers that are those of the bus and of its sets, however they are said
+module _ (bus count b k : ℕ) (e : b ≡ bus) (f : k ≡ count) where
+  pub count-parts : countLine bus count ≡ countParts b k
+  count-parts = rw (← e, ← f) (count-line b k)
+
+  pub text-parts : (i : ℕ) (bytes : List ℕ) {l l′ l″ : List ℕ} {j end : ℕ} → i ≡ count
+      → Appended (countLine b k) l 0 l′ j → Appended (linesOf bytes i) l′ j l″ end → Appended (textOf bus count bytes) l 0 l″ end
+  unfolding textOf
+  text-parts i bytes g head lines = rw (← e, ← f) (appended-more head (rw (g ∙ sym f) at lines))
 
 -- ---- lengths
 
@@ -144,7 +157,7 @@ lines-length bytes k = omega (arith, joined-length 15 (map f (below k)) each, le
     each : (t : List ℕ) → t ∈ map f (below k) → length t ≤ 15
     each t m = let x = map-at f (below k) m in rw (x .2) (line-length _ _ _)
 
-pub count-length : (bus count : ℕ) → bus < 100 → count < 100000 → length (countLine bus count) ≤ 10
+count-length : (bus count : ℕ) → bus < 100 → count < 100000 → length (countLine bus count) ≤ 10
 unfolding countLine ascii
 count-length bus count h l =
     omega (
@@ -154,6 +167,10 @@ count-length bus count h l =
       decimal-length 1 bus h,
       decimal-length 4 count l,
     )
+
+pub count-end : (bus count : ℕ) {l l′ : List ℕ} {i j : ℕ} → Appended (countLine bus count) l i l′ j → bus < 100 → count < 100000
+    → j ≤ i + 10
+count-end bus count a h l = omega (arith, a .end, count-length bus count h l)
 
 pub text-length : (bus count : ℕ) (bytes : List ℕ) → bus < 100 → count < 100000 → length (textOf bus count bytes) ≤ 10 + 15 * count
 unfolding textOf

@@ -63,3 +63,6 @@ marked-more k t d mark e p h l =
 
 pub marked-length : (k mark : ℕ) → k < 100 → length (marked k mark) ≤ 3
 marked-length k mark h = rw length-append (omega (arith, decimal-length 1 k h))
+
+pub marked-end : (k mark : ℕ) {l l′ : List ℕ} {i j : ℕ} → Appended (marked k mark) l i l′ j → k < 100 → j ≤ i + 3
+marked-end k mark a h = omega (arith, a .end, marked-length k mark h)

@@ -7,7 +7,7 @@ use lib.ListN.{length, length-set}
 use borrow.Author.Needs.{needs}
 use Rattle.model.specs.Text.{ascii}
 use Rattle.model.specs.Laws.Appended.{appended-byte, appended-one, appended-more}
-use Rattle.numbers.specs.Numbers.{marked-length, decimal-end}
+use Rattle.numbers.specs.Numbers.{marked-end, decimal-end}
 use Rattle.cutlines.specs.Sets.{count-parts}
 use Rattle.cutlines.proofs.append_count.Statement.{statement}
 use Rattle.cutlines.proofs.append_count.Tie as tie
@@ -21,10 +21,10 @@ first e = e .before .before .before .before
 
 -- where the bus's number ends, and where the count does
 bus-end : (d : tie.After-append-marked) → d .append-marked .result ≤ start d .args .at + 4
-bus-end d = omega (arith, d .append-marked .ensures .end, marked-length (start d .args .bus) 32 (start d .pre .0))
+bus-end d = omega (arith, marked-end _ _ (d .append-marked .ensures) (omega (arith, start d .pre)))
 
 count-end : (e : tie.After-append-large) → e .append-large .result ≤ start (first e) .args .at + 9
-count-end e = let d = first e in omega (arith, bus-end d, decimal-end 4 _ (e .append-large .ensures) (start d .pre .1))
+count-end e = let d = first e in omega (arith, bus-end d, decimal-end 4 _ (e .append-large .ensures) (omega (arith, start d .pre)))
 
 -- the buffer is as long as it was
 sized : (e : tie.After-append-large) → length (e .append-large .last .1 .0) ≡ length (now (start (first e) .args .out))
@@ -33,14 +33,14 @@ sized e = e .append-large .kept .1 .0 ∙ simp length-set at (first e .append-ma
 append-large-requires : tie.Need-append-large-requires
 append-large-requires c κs =
     let d = c .before .before .before in
-    (start d .pre .1, omega (arith, bus-end d, simp length-set at (d .append-marked .kept .1 .1 .0), start d .pre))
+    (omega (arith, start d .pre), omega (arith, bus-end d, simp length-set at (d .append-marked .kept .1 .1 .0), start d .pre))
 
 returns : tie.Need-returns
 unfolding ascii
 returns c =
     let e = c .before .before in
     let d = first e in
-    appended-one _ (count-parts _ _) (omega arith)
+    appended-one _ (count-parts _ _ _ _ (omega arith) (omega arith)) (omega arith)
     (appended-more (appended-more (appended-byte _ _ _) (d .append-marked .ensures)) (e .append-large .ensures))
 
 pub append-count-spec : {M : Type 1} → statement M

@@ -5,7 +5,7 @@ use native.Mathlib.Omega.{arith}
 use denote.Ref.{now}
 use lib.ListN.{length}
 use borrow.Author.Needs.{needs}
-use Rattle.model.specs.Laws.Appended.{Appended, appended-none}
+use Rattle.model.specs.Laws.Appended.{Appended}
 use Rattle.cutlines.specs.Sets.{linesOf, lines-none, lines-more, lines-length}
 use Rattle.cutlines.proofs.append_sets.Statement.{statement}
 use Rattle.cutlines.proofs.append_sets.Tie as tie
@@ -18,7 +18,7 @@ abbrev μ-loop : tie.MeasureT-loop
 μ-loop count sheet out₀ at end₀ i₀ out end i = count - i
 
 loop-holds : tie.Need-loop-holds Inv-loop μ-loop
-loop-holds c = (rw (lines-none (now (c .before .before .args .sheet))) (appended-none _ _), search needs, search needs)
+loop-holds c = (lines-none _ _ (omega arith), search needs, search needs)
 
 append-from-requires : tie.Need-append-from-requires Inv-loop μ-loop
 append-from-requires c κs =
