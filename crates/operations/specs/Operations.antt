@@ -20,6 +20,7 @@ use Rattle.model.specs.Text.{ascii, decimal, spaced, kindName, partName, phaseT
 use Rattle.model.specs.Laws.Tests.{dec-eq}
 use Rattle.model.specs.Lists.{_∈_}
 use Rattle.model.specs.Laws.Parts.{index-suc}
+use Rattle.model.specs.Laws.Appended.{Appended, appended-more}
 use Rattle.numbers.specs.Numbers.{marked, decimal-length}
 use Rattle.model.specs.Laws.Spaced.{behindSpaces, behind-spaced, behind-one}
 
@@ -98,10 +99,12 @@ module _ (n : ℕ) (h : n ≤ largest) where
 
 -- ---- one operation after the other
 
--- a name as it is appended: its kind, then its number with the byte behind it
-pub marked-name : (c mark : ℕ) → markedName c mark ≡ kindOf c ++ marked (c % 32 + 1) mark
+-- a name as it is appended: its kind, then its number k with the byte behind it
+pub marked-name : (c mark k : ℕ) {l l′ l″ : List ℕ} {at j end : ℕ} → k ≡ c % 32 + 1
+    → Appended (kindOf c) l at l′ j → Appended (marked k mark) l′ j l″ end → Appended (markedName c mark) l at l″ end
 unfolding nameOf
-marked-name c mark = append-assoc (kindOf c) (decimal (c % 32 + 1)) (mark ∷ [])
+marked-name c mark k e kind number =
+    rw (← e, append-assoc (kindOf c) (decimal k) (mark ∷ [])) (appended-more kind number)
 
 -- one more of each
 zip-one : {A B C : Type 0} (f : A → B → C) (xs : List A) (ys : List B) (x : A) (y : B) → length xs ≡ length ys

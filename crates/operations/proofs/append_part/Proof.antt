@@ -1,7 +1,6 @@
 -- `append_part`: the number and the byte behind it follow the kind.
 use native.Mathlib.Omega.{arith}
 use borrow.Author.Needs.{needs}
-use Rattle.model.specs.Laws.Appended.{appended-more}
 use Rattle.operations.specs.Operations.{kind-length, marked-name}
 use Rattle.operations.proofs.append_part.Statement.{statement}
 use Rattle.operations.proofs.append_part.Tie as tie
@@ -15,9 +14,7 @@ append-marked-requires c κs =
 returns : tie.Need-returns
 returns c =
     let e = c .before .before in
-    let d = e .before .before .before .before in
-    let s = d .before .before .before in
-    rw (marked-name (s .args .code) (s .args .mark)) (appended-more (d .append-kind .ensures) (e .append-marked .ensures))
+    marked-name _ _ _ (omega arith) (e .before .before .before .before .append-kind .ensures) (e .append-marked .ensures)
 
 pub append-part-spec : {M : Type 1} → statement M
 append-part-spec =
