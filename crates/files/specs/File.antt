@@ -4,10 +4,9 @@ use mathlib.Core.Bool.{Bool, true, false, not, cond}
 use mathlib.Core.Logic.{_⊎_, inl, inr, _≢_}
 use mathlib.Core.List.{List, [], _∷_}
 use Prim.Native.Nat.{ℕ, _+_, _-_, _*_, _≤_, _<_}
-use native.Mathlib.Nat.{add-sub-cancel-left}
 use native.Mathlib.Omega.{arith}
 use lib.Dec.{eqb, ltb}
-use lib.ListN.{length, take, drop, length-drop}
+use lib.ListN.{length, take, drop}
 use lib.Seq.{take-all, getD-take, length-take-le}
 use borrow.Author.Tests.{eqb-true, eq-eqb, ne-eqb, lt-ltb, le-ltb}
 use Rattle.model.specs.declared.Outcome.{Outcome}
@@ -21,6 +20,7 @@ use Rattle.model.specs.Answers.{fileAnswer, wholeValues}
 use Rattle.model.specs.Text.{servedLines, refusedLines, runLines, joined, printedRun, longestFile, readSize}
 use Rattle.model.specs.Laws.Tests.{dec, dec-lt}
 use Rattle.model.specs.Laws.Refusals.{when-served, when-refused}
+use Rattle.files.specs.Served.{stretches}
 
 -- r is the file's answer, with its values
 abbrev pub Answered : List ℕ → FileAnswer → Type 0
@@ -100,11 +100,10 @@ module _ (f : List ℕ) where
       -- both stretches are the file's
       by-reports : o ≡ outcomeOf (fileRefusal f)
       by-reports =
-          let words : take (length f - (3 + fileCount f)) (drop (3 + fileCount f) f) ≡ fileWords f =
-          take-all (length f - (3 + fileCount f)) (drop (3 + fileCount f) f) (simp length-drop (omega arith)) in
+          let both = stretches f whole (fileCount f) refl in
           let none-met : headRefusal (length f) (fileSize f) (fileCount f) ≡ 0 =
           head-inside _ _ _ (sized .0) (sized .1) ∙ rw (le-ltb 4096 (fileCount f), eq-eqb (length f) (3 + 2 * fileCount f)) in
-          is ∙ rw (add-sub-cancel-left 3 (fileCount f), words, head-then-reports f, none-met)
+          is ∙ rw (both .0, both .1, head-then-reports f, none-met)
 
       pub file-served : o ≡ outcome.Served → Answered f (file.Served (fileSize f) (fileCount f))
       unfolding fileAnswer

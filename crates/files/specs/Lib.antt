@@ -1,3 +1,4 @@
 -- The laws of a fault file's checks.
 pub mod Sequence
 pub mod File
+pub mod Served

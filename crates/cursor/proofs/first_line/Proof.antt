@@ -2,7 +2,8 @@
 use mathlib.Core.Path.{sym, _∙_}
 use native.Mathlib.Omega.{arith}
 use borrow.Author.Needs.{needs}
-use Rattle.cursor.specs.Run.{file-served, answer-served, passed-refused, passed-header}
+use Rattle.files.specs.Served.{file-served, answer-served}
+use Rattle.cursor.specs.Run.{passed-refused, passed-header}
 use Rattle.cursor.proofs.first_line.Statement.{statement}
 use Rattle.cursor.proofs.first_line.Tie as tie
 

@@ -7,7 +7,8 @@ use borrow.Author.Needs.{needs}
 use Rattle.model.specs.Reports.{fileCount}
 use Rattle.model.specs.Refusals.{fileRefusal}
 use Rattle.model.specs.Text.{runRing}
-use Rattle.cursor.specs.Run.{Served, file-served, first-state, behind-first, report-state, passed-line}
+use Rattle.files.specs.Served.{Served, file-served}
+use Rattle.cursor.specs.Run.{first-state, behind-first, report-state, passed-line}
 use Rattle.cursor.proofs.next_line.Statement.{statement}
 use Rattle.cursor.proofs.next_line.Tie as tie
 

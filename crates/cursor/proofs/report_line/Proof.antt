@@ -5,7 +5,8 @@ use denote.Ref.{now}
 use borrow.Author.Needs.{needs}
 use Rattle.model.specs.Laws.Tests.{never}
 use Rattle.calls.specs.Lines.{same-line}
-use Rattle.cursor.specs.Run.{Served, file-served, report-next, report-sure}
+use Rattle.files.specs.Served.{Served, file-served}
+use Rattle.cursor.specs.Run.{report-next, report-sure}
 use Rattle.cursor.proofs.report_line.Statement.{statement}
 use Rattle.cursor.proofs.report_line.Tie as tie
 

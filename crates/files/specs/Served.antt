@@ -1,0 +1,96 @@
+-- A file that is not refused, what a file's answer says of it, and where its part codes and words stand.
+use mathlib.Core.Path.{_≡_, refl, sym}
+use mathlib.Core.Bool.{Bool, true, false, not, cond}
+use mathlib.Core.Logic.{_⊎_, inl, inr, _≢_}
+use mathlib.Core.List.{List, [], _∷_}
+use Prim.Native.Nat.{ℕ, _+_, _-_, _*_, _≤_, _<_}
+use native.Mathlib.Omega.{arith}
+use lib.Dec.{eqb, ltb}
+use lib.ListN.{length, take, drop, length-drop}
+use lib.Seq.{take-all}
+use borrow.Author.Tests.{eqb-true, ltb-false, ne-eqb, not-false}
+use Rattle.model.specs.declared.FileAnswer.the-variants as file
+use Rattle.model.specs.Plant.{smallest, largest}
+use Rattle.model.specs.Reports.{fileSize, fileCount, fileCodes, fileWords}
+use Rattle.model.specs.Refusals.{firstMet, orElse, sizeOutside, reportsRefusal, fileRefusal}
+use Rattle.model.specs.Answers.{fileAnswer}
+use Rattle.model.specs.Laws.Tests.{never, dec-eq}
+use Rattle.model.specs.Laws.Refusals.{size-bounds}
+
+-- no file is both served and refused
+either : {n m k : ℕ} → file.Served n m ≡ file.Refused k → ⊥
+either e = never cc
+
+-- a first refusal of none: neither refuses
+pub or-else : (k l : ℕ) → orElse k l ≡ 0 → (k ≡ 0) × (l ≡ 0)
+or-else k l e = go (dec-eq k 0)
+  where
+    go : (k ≡ 0) ⊎ (k ≢ 0) → (k ≡ 0) × (l ≡ 0)
+    go (inl z) = (z, rw z at e)
+    go (inr z) = absurd (z (rw (ne-eqb k 0 z) at e))
+
+-- a first condition that is not met
+or-zero : (t : Bool) (k l : ℕ) → 0 < k → cond t k l ≡ 0 → (t ≡ false) × (l ≡ 0)
+or-zero true k l h e = absurd (omega (arith, e))
+or-zero false k l h e = (refl, e)
+
+-- what a file that is not refused is: 2, 3 and 4 are not met, and no report is refused
+pub record Served (f : List ℕ) : Type 0 where
+  pub big : smallest ≤ fileSize f
+  pub small : fileSize f ≤ largest
+  pub few : fileCount f ≤ 4096
+  pub whole : length f ≡ 3 + 2 * fileCount f
+  pub reports : reportsRefusal (fileSize f) (fileCodes f) (fileWords f) ≡ 0
+
+pub file-served : (f : List ℕ) → fileRefusal f ≡ 0 → Served f
+unfolding fileRefusal firstMet
+file-served f e =
+    let t = or-else head (reportsRefusal (fileSize f) (fileCodes f) (fileWords f)) e in
+    let one = or-zero (ltb (length f) 3) 1 _ (omega arith) (t .0) in
+    let two = or-zero (sizeOutside (fileSize f)) 2 _ (omega arith) (one .1) in
+    let three = or-zero (ltb 4096 (fileCount f)) 3 _ (omega arith) (two .1) in
+    let four = or-zero (not (eqb (length f) (3 + 2 * fileCount f))) 4 0 (omega arith) (three .1) in
+    let size = size-bounds (fileSize f) (two .0) in
+    record {
+      big = size .0;
+      small = size .1;
+      few = ltb-false 4096 (fileCount f) (three .0);
+      whole = eqb-true (length f) (3 + 2 * fileCount f) (not-false _ (four .0));
+      reports = t .1;
+    }
+  where
+    head : ℕ
+    head =
+        firstMet
+        ((1, ltb (length f) 3)
+        ∷ (2, sizeOutside (fileSize f))
+        ∷ (3, ltb 4096 (fileCount f))
+        ∷ (4, not (eqb (length f) (3 + 2 * fileCount f)))
+        ∷ [])
+
+-- the answers to a file
+module _ (f : List ℕ) where
+  pub answer-refused : (k : ℕ) → fileAnswer f ≡ file.Refused k → (fileRefusal f ≢ 0) × (k ≡ fileRefusal f)
+  unfolding fileAnswer
+  answer-refused k e = go (dec-eq (fileRefusal f) 0)
+    where
+      go : (fileRefusal f ≡ 0) ⊎ (fileRefusal f ≢ 0) → (fileRefusal f ≢ 0) × (k ≡ fileRefusal f)
+      go (inl z) = let t : file.Served (fileSize f) (fileCount f) ≡ file.Refused k = rw z at e in absurd (either t)
+      go (inr z) = let t : file.Refused (fileRefusal f) ≡ file.Refused k = rw (ne-eqb (fileRefusal f) 0 z) at e in (z, cc)
+
+  pub answer-served : (n m : ℕ) → fileAnswer f ≡ file.Served n m → (fileRefusal f ≡ 0) × (n ≡ fileSize f) × (m ≡ fileCount f)
+  unfolding fileAnswer
+  answer-served n m e = go (dec-eq (fileRefusal f) 0)
+    where
+      go : (fileRefusal f ≡ 0) ⊎ (fileRefusal f ≢ 0) → (fileRefusal f ≡ 0) × (n ≡ fileSize f) × (m ≡ fileCount f)
+      go (inl z) = let t : file.Served (fileSize f) (fileCount f) ≡ file.Served n m = rw z at e in (z, cc, cc)
+      go (inr z) =
+          let t : file.Refused (fileRefusal f) ≡ file.Served n m = rw (ne-eqb (fileRefusal f) 0 z) at e in
+          absurd (either (sym t))
+
+-- the two stretches of a file that has m reports are its part codes and its words
+pub stretches : (f : List ℕ) → length f ≡ 3 + 2 * fileCount f → (m : ℕ) → m ≡ fileCount f
+    → (take (3 + m - 3) (drop 3 f) ≡ fileCodes f) × (take (length f - (3 + m)) (drop (3 + m) f) ≡ fileWords f)
+stretches f whole m e =
+    let k : 3 + fileCount f - 3 ≡ fileCount f = omega arith in
+    rw (e, k) (refl, take-all (length f - (3 + fileCount f)) (fileWords f) (omega (arith, length-drop (3 + fileCount f) f)))
