@@ -7,7 +7,7 @@ use Prim.Native.Nat.{ℕ, zero, suc, _+_, _-_, _/_, _≤_, _<_}
 use native.Mathlib.Numerals.{add-one, add-two}
 use native.Mathlib.Omega.{arith}
 use lib.Dec.{eqb, ltb}
-use lib.ListN.{length, getD, take, drop, length-take, length-drop, length-map, length-append}
+use lib.ListN.{length, getD, take, drop, length-map, length-append}
 use borrow.Author.Tests.{lt-ltb, ne-eqb}
 use Rattle.model.specs.declared.Report.{Report}
 use Rattle.model.specs.declared.Ring.{Ring}
@@ -40,7 +40,7 @@ use Rattle.model.specs.Text.{
 use Rattle.model.specs.Laws.Tests.{dec-eq}
 use Rattle.model.specs.Laws.Lists.{below-length, map-below-at}
 use Rattle.model.specs.Laws.Reports.{ReadOrRefused, read-or-refused}
-use Rattle.files.specs.Served.{or-else, file-served, answer-refused, answer-served, stretches}
+use Rattle.files.specs.Served.{or-else, file-served, answer-refused, answer-served, stretches, counted}
 use Rattle.calls.specs.Lines.{Stored, Shown}
 use Rattle.calls.specs.Served.{start-good, next-good}
 use Rattle.cursor.specs.Passed.{Passed}
@@ -74,8 +74,7 @@ module _ (f : List ℕ) (served : fileRefusal f ≡ 0) where
   unfolding reportAt
   is-read i h =
       let s = file-served f served in
-      let c : length (fileCodes f) ≡ fileCount f = omega (arith, s .whole, length-take (fileCount f) (drop 3 f), length-drop 3 f) in
-      let w : length (fileWords f) ≡ fileCount f = omega (arith, s .whole, length-drop (3 + fileCount f) f) in
+      let both = counted f (s .whole) in
       rw (lt-ltb i (length (fileCodes f)) (omega arith), lt-ltb i (length (fileWords f)) (omega arith))
       (all-read (fileSize f) (fileCodes f) (fileWords f) (s .reports) i (omega arith) (omega arith))
 
@@ -109,7 +108,7 @@ module _ (f : List ℕ) (served : fileRefusal f ≡ 0) where
         let good = ring-good i (omega arith) in
         let whole = file-served f served .whole in
         let size : ring .n ≡ fileSize f = rw state (good .0) in
-        let both = stretches f whole m (omega arith) in
+        let both = stretches f whole m (3 + m) (omega arith) refl in
         (answer ∙ rw (size, both .0, both .1), size, rw state (good .1))
 
     -- it is read, and the next ring is told it

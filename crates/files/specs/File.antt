@@ -100,7 +100,7 @@ module _ (f : List ℕ) where
       -- both stretches are the file's
       by-reports : o ≡ outcomeOf (fileRefusal f)
       by-reports =
-          let both = stretches f whole (fileCount f) refl in
+          let both = stretches f whole (fileCount f) (3 + fileCount f) refl refl in
           let none-met : headRefusal (length f) (fileSize f) (fileCount f) ≡ 0 =
           head-inside _ _ _ (sized .0) (sized .1) ∙ rw (le-ltb 4096 (fileCount f), eq-eqb (length f) (3 + 2 * fileCount f)) in
           is ∙ rw (both .0, both .1, head-then-reports f, none-met)

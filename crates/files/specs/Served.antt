@@ -6,7 +6,7 @@ use mathlib.Core.List.{List, [], _∷_}
 use Prim.Native.Nat.{ℕ, _+_, _-_, _*_, _≤_, _<_}
 use native.Mathlib.Omega.{arith}
 use lib.Dec.{eqb, ltb}
-use lib.ListN.{length, take, drop, length-drop}
+use lib.ListN.{length, take, drop, length-take, length-drop}
 use lib.Seq.{take-all}
 use borrow.Author.Tests.{eqb-true, ltb-false, ne-eqb, not-false}
 use Rattle.model.specs.declared.FileAnswer.the-variants as file
@@ -88,9 +88,15 @@ module _ (f : List ℕ) where
           let t : file.Refused (fileRefusal f) ≡ file.Served n m = rw (ne-eqb (fileRefusal f) 0 z) at e in
           absurd (either (sym t))
 
--- the two stretches of a file that has m reports are its part codes and its words
-pub stretches : (f : List ℕ) → length f ≡ 3 + 2 * fileCount f → (m : ℕ) → m ≡ fileCount f
-    → (take (3 + m - 3) (drop 3 f) ≡ fileCodes f) × (take (length f - (3 + m)) (drop (3 + m) f) ≡ fileWords f)
-stretches f whole m e =
-    let k : 3 + fileCount f - 3 ≡ fileCount f = omega arith in
-    rw (e, k) (refl, take-all (length f - (3 + fileCount f)) (fileWords f) (omega (arith, length-drop (3 + fileCount f) f)))
+-- the two stretches of a file that has m reports, from 3 to k and from k on, are its part codes and its words
+pub stretches : (f : List ℕ) → length f ≡ 3 + 2 * fileCount f → (m k : ℕ) → m ≡ fileCount f → k ≡ 3 + m
+    → (take (k - 3) (drop 3 f) ≡ fileCodes f) × (take (length f - k) (drop k f) ≡ fileWords f)
+stretches f whole m k e g =
+    let a : k - 3 ≡ fileCount f = omega arith in
+    let b : k ≡ 3 + fileCount f = omega arith in
+    (rw a, rw b (take-all (length f - (3 + fileCount f)) (fileWords f) (omega (arith, length-drop (3 + fileCount f) f))))
+
+-- as many of each as it has reports
+pub counted : (f : List ℕ) → length f ≡ 3 + 2 * fileCount f → (length (fileCodes f) ≡ fileCount f) × (length (fileWords f) ≡ fileCount f)
+counted f whole =
+    (omega (arith, length-take (fileCount f) (drop 3 f), length-drop 3 f), omega (arith, length-drop (3 + fileCount f) f))

@@ -104,6 +104,12 @@ pub struct CutSetsAnswer {
     pub count: u16,
 }
 
+// What the call for the ring state after a fault file's last report answers.
+pub struct LatestAnswer {
+    pub outcome: Outcome,
+    pub ring: Ring,
+}
+
 // The part that a code names in a ring, or refusal 5.
 pub enum PartAnswer {
     Named(Part),

@@ -1,0 +1,129 @@
+-- A ring that is told the reports of a file one after the other, and planned once, behind the last. Reports are counted from 0.
+use mathlib.Core.Path.{_≡_, refl, sym, _∙_, ap}
+use mathlib.Core.List.{List}
+use Prim.Native.Nat.{ℕ, zero, suc, _+_, _-_, _≤_}
+use native.Mathlib.Numerals.{add-one}
+use native.Mathlib.Omega.{arith}
+use lib.ListN.{length, take, drop}
+use borrow.Author.Tests.{ne-eqb}
+use Rattle.model.specs.declared.Commands.{Commands}
+use Rattle.model.specs.declared.Ring.{Ring}
+use Rattle.model.specs.declared.Outcome.{Outcome}
+use Rattle.model.specs.declared.Outcome.the-variants as outcome
+use Rattle.model.specs.declared.ReportAnswer.{ReportAnswer}
+use Rattle.model.specs.declared.ReportAnswer.the-variants.{Read, Refused, Missing}
+use Rattle.model.specs.declared.FileAnswer.the-variants as file
+use Rattle.model.specs.declared.LatestAnswer.{LatestAnswer}
+use Rattle.model.specs.Values.{outcomeOf, outcomeNumber}
+use Rattle.model.specs.Plant.{smallest, largest}
+use Rattle.model.specs.Choosing.{commands}
+use Rattle.model.specs.Reports.{
+  fileSize,
+  fileCount,
+  fileCodes,
+  fileWords,
+  healthOf,
+  commandPlaces,
+  blankRing,
+  told,
+  planned,
+  withPlan,
+}
+use Rattle.model.specs.Refusals.{fileRefusal}
+use Rattle.model.specs.Answers.{reportAt, fileAnswer}
+use Rattle.model.specs.Text.{toldAnswer, runRing}
+use Rattle.model.specs.CutText.{latestRing}
+use Rattle.files.specs.Served.{file-served, answer-refused, answer-served, stretches, counted}
+
+-- a blank ring of n told the first i reports of a file's part codes and words
+unfoldable pub toldReports : ℕ → List ℕ → List ℕ → ℕ → Ring
+toldReports n cs vs zero = blankRing n
+toldReports n cs vs (suc i) = let ring = toldReports n cs vs i in toldAnswer ring (reportAt n cs vs i)
+
+-- ---- one report after the other
+
+module _ (n : ℕ) (cs vs : List ℕ) (i : ℕ) where
+  pub told-none : {ring : Ring} → i ≡ 0 → ring ≡ blankRing n → ring ≡ toldReports n cs vs i
+  unfolding toldReports
+  told-none e is = rw e is
+
+  pub told-more : {ring next : Ring} {a : ReportAnswer} → ring ≡ toldReports n cs vs i → a ≡ reportAt n cs vs i → next ≡ toldAnswer ring a
+      → next ≡ toldReports n cs vs (i + 1)
+  unfolding toldReports
+  told-more e f is = is ∙ rw (e, f, add-one)
+
+  -- no report changes the size
+  told-size : toldReports n cs vs i .n ≡ n
+  unfolding toldReports toldAnswer blankRing told
+  told-size = go i
+    where
+      one : (ring : Ring) (a : ReportAnswer) → ring .n ≡ n → toldAnswer ring a .n ≡ n
+      one ring (Read r) e = e
+      one ring (Refused k) e = e
+      one ring Missing e = e
+
+      go : (j : ℕ) → toldReports n cs vs j .n ≡ n
+      go zero = refl
+      go (suc j) = one (toldReports n cs vs j) (reportAt n cs vs j) (go j)
+
+-- ---- one plan
+
+pub plan-stored : (ring : Ring) (c : Commands) → c ≡ commandPlaces (commands (ring .n) (healthOf (ring .health)))
+    → let next : Ring = record { n = ring .n; health = ring .health; commands = c } in next ≡ withPlan ring
+unfolding withPlan planned
+plan-stored ring c e = rw e
+
+-- a plan before a report changes nothing behind the next: a report reads the size and the health, and a plan replaces the commands
+plan-once : (ring : Ring) (a : ReportAnswer) → withPlan (toldAnswer (withPlan ring) a) ≡ withPlan (toldAnswer ring a)
+unfolding toldAnswer told withPlan planned
+plan-once ring (Read r) = refl
+plan-once ring (Refused k) = refl
+plan-once ring Missing = refl
+
+-- so that one plan behind the first i reports gives the state of the run
+run-state : (f : List ℕ) (i : ℕ) → withPlan (toldReports (fileSize f) (fileCodes f) (fileWords f) i) ≡ withPlan (runRing f i)
+unfolding toldReports runRing
+run-state f zero = refl
+run-state f (suc i) =
+    let a = reportAt (fileSize f) (fileCodes f) (fileWords f) i in
+    sym (plan-once _ a) ∙ ap (λ ring. withPlan (toldAnswer ring a)) (run-state f i)
+
+-- ---- the answer
+
+-- r is the file's answer
+abbrev pub Answered : List ℕ → LatestAnswer → Type 0
+Answered f r = (r .outcome ≡ outcomeOf (fileRefusal f)) × ((outcomeNumber (r .outcome) ≡ fileRefusal f) × (r .ring ≡ latestRing f))
+
+module _ (f : List ℕ) where
+  pub after-refused : (k : ℕ) (ring : Ring) → fileAnswer f ≡ file.Refused k → ring ≡ blankRing 0
+      → Answered f (record { outcome = outcome.Refused k; ring = ring })
+  unfolding outcomeOf latestRing
+  after-refused k ring e is =
+      let t = answer-refused f k e in
+      rw (ne-eqb (fileRefusal f) 0 (t .0)) (ap outcome.Refused (t .1), (t .1, is))
+
+  -- a file of n buses and m reports, whose part codes and words are those of its two stretches
+  module _ (n m : ℕ) (e : fileAnswer f ≡ file.Served n m) where
+    pub served-sizes : (smallest ≤ n) × (n ≤ largest) × (length f ≡ 3 + m + m)
+    served-sizes =
+        let (z, a, b) = answer-served f n m e in
+        let s = file-served f z in
+        (omega (arith, s .big), omega (arith, s .small), omega (arith, s .whole))
+
+    module _ (ring : Ring) (is : ring ≡ toldReports n (take (3 + m - 3) (drop 3 f)) (take (length f - (3 + m)) (drop (3 + m) f))
+        (length (take (3 + m - 3) (drop 3 f)))) where
+      told-all : ring ≡ toldReports (fileSize f) (fileCodes f) (fileWords f) (fileCount f)
+      told-all =
+          let (z, a, b) = answer-served f n m e in
+          let whole = file-served f z .whole in
+          let both = stretches f whole m b in
+          is ∙ rw (both .0, both .1, counted f whole .0, a)
+
+      pub after-size : (smallest ≤ ring .n) × (ring .n ≤ largest)
+      after-size = rw (is, told-size n _ _ _) (served-sizes .0, served-sizes .1)
+
+      pub after-served : (next : Ring) → next ≡ withPlan ring → Answered f (record { outcome = outcome.Served; ring = next })
+      unfolding outcomeOf latestRing
+      after-served next p =
+          let (z, a, b) = answer-served f n m e in
+          rw z (refl, (refl, p ∙ ap withPlan told-all ∙ run-state f (fileCount f)))
