@@ -2,6 +2,7 @@
 use mathlib.Core.Path.{_≡_, refl, sym, _∙_, ap}
 use mathlib.Core.List.{List}
 use Prim.Native.Nat.{ℕ, zero, suc, _+_, _-_, _≤_}
+use native.Mathlib.Nat.{add-sub-cancel}
 use native.Mathlib.Numerals.{add-one}
 use native.Mathlib.Omega.{arith}
 use lib.ListN.{length, take, drop}
@@ -42,15 +43,16 @@ toldReports n cs vs (suc i) = let ring = toldReports n cs vs i in toldAnswer rin
 
 -- ---- one report after the other
 
+-- m and j are the size and the index that the code passes on
 module _ (n : ℕ) (cs vs : List ℕ) (i : ℕ) where
-  pub told-none : {ring : Ring} → i ≡ 0 → ring ≡ blankRing n → ring ≡ toldReports n cs vs i
+  pub told-none : (m : ℕ) {ring : Ring} → m ≡ n → i ≡ 0 → ring ≡ blankRing m → ring ≡ toldReports n cs vs i
   unfolding toldReports
-  told-none e is = rw e is
+  told-none m g e is = rw (e, ← g) is
 
-  pub told-more : {ring next : Ring} {a : ReportAnswer} → ring ≡ toldReports n cs vs i → a ≡ reportAt n cs vs i → next ≡ toldAnswer ring a
-      → next ≡ toldReports n cs vs (i + 1)
+  pub told-more : (m j : ℕ) {ring next : Ring} {a : ReportAnswer} → m ≡ n → j ≡ i
+      → ring ≡ toldReports n cs vs i → a ≡ reportAt m cs vs j → next ≡ toldAnswer ring a → next ≡ toldReports n cs vs (i + 1)
   unfolding toldReports
-  told-more e f is = is ∙ rw (e, f, add-one)
+  told-more m j g h e f is = is ∙ rw (e, f, g, h, add-one)
 
   -- no report changes the size
   told-size : toldReports n cs vs i .n ≡ n
@@ -68,10 +70,10 @@ module _ (n : ℕ) (cs vs : List ℕ) (i : ℕ) where
 
 -- ---- one plan
 
-pub plan-stored : (ring : Ring) (c : Commands) → c ≡ commandPlaces (commands (ring .n) (healthOf (ring .health)))
+pub plan-stored : (ring : Ring) (n : ℕ) (c : Commands) → n ≡ ring .n → c ≡ commandPlaces (commands n (healthOf (ring .health)))
     → let next : Ring = record { n = ring .n; health = ring .health; commands = c } in next ≡ withPlan ring
 unfolding withPlan planned
-plan-stored ring c e = rw e
+plan-stored ring n c g e = rw (e, g)
 
 -- a plan before a report changes nothing behind the next: a report reads the size and the health, and a plan replaces the commands
 plan-once : (ring : Ring) (a : ReportAnswer) → withPlan (toldAnswer (withPlan ring) a) ≡ withPlan (toldAnswer ring a)
@@ -95,12 +97,12 @@ abbrev pub Answered : List ℕ → LatestAnswer → Type 0
 Answered f r = (r .outcome ≡ outcomeOf (fileRefusal f)) × ((outcomeNumber (r .outcome) ≡ fileRefusal f) × (r .ring ≡ latestRing f))
 
 module _ (f : List ℕ) where
-  pub after-refused : (k : ℕ) (ring : Ring) → fileAnswer f ≡ file.Refused k → ring ≡ blankRing 0
-      → Answered f (record { outcome = outcome.Refused k; ring = ring })
+  pub after-refused : (k j n : ℕ) (ring : Ring) → fileAnswer f ≡ file.Refused k → j ≡ k → n ≡ 0 → ring ≡ blankRing n
+      → Answered f (record { outcome = outcome.Refused j; ring = ring })
   unfolding outcomeOf latestRing
-  after-refused k ring e is =
+  after-refused k j n ring e g z is =
       let t = answer-refused f k e in
-      rw (ne-eqb (fileRefusal f) 0 (t .0)) (ap outcome.Refused (t .1), (t .1, is))
+      rw (g, ne-eqb (fileRefusal f) 0 (t .0)) (ap outcome.Refused (t .1), (t .1, is ∙ ap blankRing z))
 
   -- a file of n buses and m reports, whose part codes and words are those of its two stretches
   module _ (n m : ℕ) (e : fileAnswer f ≡ file.Served n m) where
@@ -110,14 +112,15 @@ module _ (f : List ℕ) where
         let s = file-served f z in
         (omega (arith, s .big), omega (arith, s .small), omega (arith, s .whole))
 
-    module _ (ring : Ring) (is : ring ≡ toldReports n (take (3 + m - 3) (drop 3 f)) (take (length f - (3 + m)) (drop (3 + m) f))
-        (length (take (3 + m - 3) (drop 3 f)))) where
+    module _ (ring : Ring) (is : ring ≡ toldReports n (take m (drop 3 f)) (take (length f - (m + 3)) (drop (m + 3) f))
+        (length (take m (drop 3 f)))) where
       told-all : ring ≡ toldReports (fileSize f) (fileCodes f) (fileWords f) (fileCount f)
       told-all =
           let (z, a, b) = answer-served f n m e in
           let whole = file-served f z .whole in
-          let both = stretches f whole m b in
-          is ∙ rw (both .0, both .1, counted f whole .0, a)
+          let both = stretches f whole m (m + 3) b (omega arith) in
+          let codes : take m (drop 3 f) ≡ fileCodes f = rw (add-sub-cancel m 3) at (both .0) in
+          is ∙ rw (codes, both .1, counted f whole .0, a)
 
       pub after-size : (smallest ≤ ring .n) × (ring .n ≤ largest)
       after-size = rw (is, told-size n _ _ _) (served-sizes .0, served-sizes .1)

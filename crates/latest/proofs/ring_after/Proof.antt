@@ -1,5 +1,6 @@
 -- `latest::ring_after`: a file is refused or served, as its answer says; a served file has the length that its count says.
 use mathlib.Core.Path.{_≡_, sym, _∙_}
+use native.Mathlib.Nat.{add-comm, add-sub-cancel}
 use native.Mathlib.Omega.{arith}
 use denote.Ref.{now}
 use borrow.Author.Needs.{needs}
@@ -14,18 +15,23 @@ answered : (d : tie.After-known-told2)
     → let g = d .before .n .given .0 in fileAnswer (now (d .before .before .before .before .before .args .file)) ≡ Served (g .0) (g .1 .0)
 answered d = sym (d .before .before .before .check-file .ensures .0) ∙ d .before .n .given .1
 
+-- the sums of both stretches are brought into one order
 planned-requires : tie.Need-planned-requires
-planned-requires c κs = after-size _ _ _ (answered (c .before .before .before)) _ (c .told-all .ensures)
+planned-requires c κs =
+    after-size _ _ _ (answered (c .before .before .before)) _
+    (simp (add-comm 3, add-sub-cancel) at (c .told-all .ensures))
 
 returns : tie.Need-returns
 returns c =
     let d = c .before .before in
-    after-refused _ _ _ (sym (d .before .before .check-file .ensures .0) ∙ d .k .given .1) (c .blank .ensures)
+    after-refused _ _ _ _ _ (sym (d .before .before .check-file .ensures .0) ∙ d .k .given .1)
+    (omega arith) (omega arith) (c .blank .ensures)
 
 returns-2 : tie.Need-returns-2
 returns-2 c =
     let d = c .before in
-    after-served _ _ _ (answered (d .before .before .before)) _ (d .told-all .ensures) _ (c .planned .ensures)
+    after-served _ _ _ (answered (d .before .before .before)) _
+    (simp (add-comm 3, add-sub-cancel) at (d .told-all .ensures)) _ (c .planned .ensures)
 
 pub ring-after-spec : {M : Type 1} → statement M
 ring-after-spec =

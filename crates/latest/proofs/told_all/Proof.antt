@@ -18,7 +18,8 @@ abbrev μ-loop : tie.MeasureT-loop
 loop-again : tie.Need-loop-again Inv-loop μ-loop
 loop-again c =
     let l = c .before .before .before .loop in
-    (told-more _ _ _ _ (l .inv .0) (c .before .report-at .ensures .0) (c .told-answer .ensures), search needs)
+    let told = told-more _ _ _ _ _ _ (omega arith) (omega arith) (l .inv .0) (c .before .report-at .ensures .0) (c .told-answer .ensures) in
+    (told, search needs)
 
 returns : tie.Need-returns Inv-loop μ-loop
 returns c =
@@ -33,7 +34,7 @@ told-all-spec =
     Inv-loop
     μ-loop
     (λ c κs. search needs)
-    (λ c. (told-none _ _ _ _ (omega arith) (c .blank .ensures), search needs))
+    (λ c. (told-none _ _ _ _ _ (omega arith) (omega arith) (c .blank .ensures), search needs))
     (λ c κs. search needs)
     (λ c κs. search needs)
     (λ c. search needs)
