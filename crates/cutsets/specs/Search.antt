@@ -36,7 +36,8 @@ most m zero = 1
 most zero (suc k) = 0
 most (suc m) (suc k) = most m k + most m (suc k)
 
-size-count : (k : ℕ) (ps : List Part) → length (ofSize k ps) ≡ most (length ps) k
+-- so many there are
+pub size-count : (k : ℕ) (ps : List Part) → length (ofSize k ps) ≡ most (length ps) k
 unfolding ofSize most
 size-count zero ps = refl
 size-count (suc k) [] = refl

@@ -4,17 +4,18 @@ use mathlib.Core.List.{List, [], _++_, flatMap, map-id}
 use Prim.Native.Nat.{ℕ, zero, suc, _+_, _-_, _*_, _≤_, _<_}
 use native.Mathlib.Omega.{arith}
 use native.Mathlib.Numerals.{add-one}
-use lib.ListN.{length}
+use lib.ListN.{length, length-append}
 use Rattle.partsets.specs.declared.PartSet.{PartSet}
 use Rattle.model.specs.declared.Part.{Part}
 use Rattle.model.specs.Lists.{below, keep}
 use Rattle.model.specs.Plant.{PartHealth, parts}
 use Rattle.model.specs.CutSets.{canFail, furtherFaults, minimal, ofSize, sizesBelow, cutSets, setBytes}
-use Rattle.model.specs.Laws.Lists.{flat-append, keep-append}
+use Rattle.model.specs.Laws.Lists.{flat-append, keep-append, keep-length}
+use Rattle.model.specs.Laws.Parts.{parts-length}
 use Rattle.model.specs.Laws.Appended.{Appended, appended-none, appended-more}
 use Rattle.theory.specs.Proofs.Subsets.{sizes-next}
 use Rattle.partsets.specs.Sets.{none-held}
-use Rattle.cutsets.specs.Search.{found, foundFrom, Stored, most, most-le, more-found, Searching}
+use Rattle.cutsets.specs.Search.{found, foundFrom, Stored, most, size-count, most-le, more-found, Searching}
 
 -- the sets of fewer than k parts that count
 unfoldable pub listedTo : ℕ → PartHealth → ℕ → ℕ → List (List Part)
@@ -70,6 +71,27 @@ most-next k l =
 
 pub most-end : (i k : ℕ) → i ≡ 4 → k ≤ mostTo i → k ≤ 36051
 most-end i k e l = let u : k ≤ mostTo 4 = rw e at l in omega (arith, most-all)
+
+listed-count : (n : ℕ) (H : PartHealth) (b : ℕ) → n ≤ 20 → (k : ℕ) → length (listedTo n H b k) ≤ mostTo k
+unfolding listedTo furtherFaults mostTo sizesBelow below keep flatMap
+listed-count n H b h zero = omega arith
+listed-count n H b h (suc k) =
+    let F = keep (canFail H) (parts n) in
+    let e : keep (minimal n H b) (sizesBelow (suc k) F) ≡ keep (minimal n H b) (sizesBelow k F) ++ keep (minimal n H b) (ofSize k F) =
+    ap (keep (minimal n H b)) (sizes-next k F) ∙ keep-append (minimal n H b) (sizesBelow k F) (ofSize k F) in
+    omega (
+      arith,
+      ap length e,
+      length-append (keep (minimal n H b) (sizesBelow k F)) (keep (minimal n H b) (ofSize k F)),
+      listed-count n H b h k,
+      keep-length (minimal n H b) (ofSize k F),
+      size-count k F,
+      most-le (length F) 60 k (omega (arith, keep-length (canFail H) (parts n), parts-length n)),
+    )
+
+-- so no bus has more
+pub cut-sets-few : (n : ℕ) (H : PartHealth) (b : ℕ) → n ≤ 20 → length (cutSets n H b) ≤ 36051
+cut-sets-few n H b h = omega (arith, ap length (listed-all n H b), listed-count n H b h 4, most-all)
 
 pub room-size : (n k i L : ℕ) → n ≤ 20 → k < 4 → i ≤ mostTo k → 108153 ≤ L → 3 * (i + most (3 * n) k) ≤ L
 room-size n k i L h l r f = omega (arith, most-le (3 * n) 60 k (omega arith), most-next k l .1)
