@@ -2,8 +2,8 @@
 use mathlib.Core.Path.{_≡_, refl, sym, _∙_, ap}
 use mathlib.Core.Bool.{Bool, true, false, not, cond}
 use mathlib.Core.Logic.{_⊎_, inl, inr, _≢_}
-use mathlib.Core.List.{List, [], _∷_}
-use Prim.Native.Nat.{ℕ, _+_, _-_, _*_, _≤_, _<_}
+use mathlib.Core.List.{List, [], _∷_, map}
+use Prim.Native.Nat.{ℕ, suc, _+_, _-_, _*_, _≤_, _<_}
 use native.Mathlib.Omega.{arith}
 use lib.Dec.{eqb, ltb}
 use lib.ListN.{length, take, drop}
@@ -17,7 +17,10 @@ use Rattle.model.specs.Values.{outcomeOf, numbered, fileValues}
 use Rattle.model.specs.Reports.{fileSize, fileCount, fileCodes, fileWords}
 use Rattle.model.specs.Refusals.{firstMet, orElse, sizeOutside, reportsRefusal, fileRefusal}
 use Rattle.model.specs.Answers.{fileAnswer, wholeValues}
-use Rattle.model.specs.Text.{servedLines, refusedLines, runLines, joined, printedRun, longestFile, readSize}
+use Rattle.model.specs.Lists.{below}
+use Rattle.model.specs.Text.{servedLines, refusedText, refusedLines, runLines, joined, printedRun, longestFile, readSize}
+use Rattle.model.specs.CutSets.{ringCutSets}
+use Rattle.model.specs.CutText.{cutText, latestRing, printedCutSets}
 use Rattle.model.specs.Laws.Tests.{dec, dec-lt}
 use Rattle.model.specs.Laws.Refusals.{when-served, when-refused}
 use Rattle.files.specs.Served.{stretches}
@@ -166,6 +169,11 @@ answer-read = made-read (λ f. file.Served (fileSize f) (fileCount f)) file.Refu
 lines-read : (f : List ℕ) → runLines (take readSize f) ≡ runLines f
 unfolding runLines made
 lines-read = made-read servedLines refusedLines
+
+-- and its printed cut sets
+pub cuts-read : (f : List ℕ) → printedCutSets (take readSize f) ≡ printedCutSets f
+unfolding printedCutSets made
+cuts-read = made-read (λ f. joined (map (λ b. cutText (suc b) (ringCutSets (latestRing f) (suc b))) (below (fileSize f)))) refusedText
 
 -- and its printed run
 pub run-read : (f : List ℕ) → printedRun (take readSize f) ≡ printedRun f

@@ -1,0 +1,28 @@
+// The minimal cut sets of a bus of a ring state as text in a lent buffer: its line, as `B3 10`, then a line a set. Buses are numbers, from 1.
+ghost use mathlib.Core.Path.{_≡_};
+ghost use Prim.Native.Nat.{_≤_};
+ghost use lib.ListN.{length};
+ghost use Rattle.model.specs.Sheet.{written};
+ghost use Rattle.model.specs.CutText.{textRoom, busCutText};
+use model::Outcome;
+use model::Ring;
+
+// Room for the sheet of any bus.
+const ROOM: usize = 108155;
+
+// The text of a bus in the front of a buffer, and its length: none where the ring state or the bus is refused.
+pub fn bus_text(ring: Ring, bus: u8, out: &mut [u8]) -> usize
+    requires room { ⌜ textRoom ≤ length (now out) ⌝ }
+    ensures bytes { λ r. ⌜ now (out .exit) ≡ written (busCutText ring bus) (now (out .entry)) ⌝ }
+    ensures end { λ r. ⌜ r ≡ length (busCutText ring bus) ⌝ }
+    ensures within { λ r. ⌜ r ≤ length (now (out .exit)) ⌝ }
+{
+    let mut sheet = [0u8; ROOM];
+    let answer = cutsets::list(ring, bus, &mut sheet);
+    let outcome = answer.outcome;
+    let count = answer.count as usize;
+    match outcome {
+        Outcome::Served => cutlines::text(bus, count, &sheet, out),
+        Outcome::Refused(_) => 0,
+    }
+}
