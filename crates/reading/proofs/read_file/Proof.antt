@@ -5,8 +5,8 @@ use native.Mathlib.Omega.{arith}
 use lib.ListN.{length, length-take, length-drop}
 use lib.Seq.{length-take-le}
 use borrow.Author.Needs.{needs}
-use Rattle.ringctl.proofs.read_file.Statement.{statement}
-use Rattle.ringctl.proofs.read_file.Tie as tie
+use Rattle.reading.proofs.read_file.Statement.{statement}
+use Rattle.reading.proofs.read_file.Tie as tie
 
 abbrev Inv-loop : tie.InvT-loop
 Inv-loop file₀ size₀ file size = (size ≤ length file) × (length file ≡ length file₀)
