@@ -1,12 +1,12 @@
 -- `append_count`: the bus's number and the count follow one another, then a line feed.
-use mathlib.Core.Path.{_≡_, _∙_}
+use mathlib.Core.Path.{_≡_, refl, _∙_}
 use Prim.Native.Nat.{_+_, _≤_}
 use native.Mathlib.Omega.{arith}
 use denote.Ref.{now}
 use lib.ListN.{length, length-set}
 use borrow.Author.Needs.{needs}
 use Rattle.model.specs.Text.{ascii}
-use Rattle.model.specs.Laws.Appended.{appended-byte, appended-one, appended-more}
+use Rattle.model.specs.Laws.Appended.{appended-none, appended-one, appended-more}
 use Rattle.numbers.specs.Numbers.{marked-end, decimal-end}
 use Rattle.cutlines.specs.Sets.{count-parts}
 use Rattle.cutlines.proofs.append_count.Statement.{statement}
@@ -41,7 +41,8 @@ returns c =
     let e = c .before .before in
     let d = first e in
     appended-one _ (count-parts _ _ _ _ (omega arith) (omega arith)) (omega arith)
-    (appended-more (appended-more (appended-byte _ _ _) (d .append-marked .ensures)) (e .append-large .ensures))
+    (appended-more (appended-more (appended-one _ refl (omega arith) (appended-none _ _)) (d .append-marked .ensures))
+    (e .append-large .ensures))
 
 pub append-count-spec : {M : Type 1} → statement M
 append-count-spec =
