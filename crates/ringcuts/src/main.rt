@@ -12,9 +12,10 @@ use model::Ring;
 fn print_buses(ring: Ring, out: &mut [u8]) -> bool
     requires { ⌜ textRoom ≤ length (now out) ⌝ }
 {
+    let mut sheet = [0u8; 108155];
     let n = ring.n;
     for b in 0..n {
-        let length = listing::bus_text(ring, b + 1, out);
+        let length = listing::bus_text(ring, b + 1, &mut sheet, out);
         if !io::write_all(STDOUT_FILENO, &out[..length]) {
             return false;
         }
