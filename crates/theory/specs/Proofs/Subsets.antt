@@ -113,12 +113,13 @@ subsets-at (p ∷ T) {S} m = go (λ R k. subsets-at T k) (λ k. subsets-at T k) 
 
 pub proper-in : {S T : List Part} → Proper S T → S ∈ properSubsets T
 unfolding properSubsets
-proper-in {S} {T} r = keep-in (λ R. ltb (length R) (length T)) (subsets-in (r .0)) (lt-ltb (length S) (length T) (r .1))
+proper-in {S} {T} r = keep-in (λ R. ltb (length R) (length T)) (subsets-in (r .0)) (lt-ltb (length S) (length T) (omega (arith, r .1)))
 
 pub proper-at : (T : List Part) {S : List Part} → S ∈ properSubsets T → Proper S T
 unfolding properSubsets
 proper-at T {S} m =
-    let t = keep-at (λ R. ltb (length R) (length T)) (subsets T) m in (subsets-at T (t .0), ltb-true (length S) (length T) (t .1))
+    let t = keep-at (λ R. ltb (length R) (length T)) (subsets T) m in
+    (subsets-at T (t .0), omega (arith, ltb-true (length S) (length T) (t .1)))
 
 -- ---- one part left out
 
