@@ -1,8 +1,21 @@
 -- The search for the sets of one size: the next part is taken, with a fault fewer to spend, or passed by.
 use mathlib.Core.Path.{_≡_, refl, sym, _∙_, ap}
 use mathlib.Core.Bool.{Bool, true, false}
-use mathlib.Core.Logic.{_≢_}
-use mathlib.Core.List.{List, [], _∷_, _++_, map, flatMap, map-append, append-assoc, append-nil}
+use mathlib.Core.Logic.{_⊎_, inl, inr, _≢_}
+use mathlib.Core.List.{
+  List,
+  [],
+  _∷_,
+  _++_,
+  map,
+  flatMap,
+  map-append,
+  append-assoc,
+  append-nil,
+  List·Memᴰ·head,
+  Memᴰ·append-left,
+  Memᴰ·append-right,
+}
 use Prim.Native.Nat.{ℕ, zero, suc, _+_, _-_, _*_, _≤_, _<_}
 use native.Mathlib.Omega.{arith}
 use lib.ListN.{length, drop, length-map, length-append, length-drop}
@@ -15,7 +28,9 @@ use Rattle.model.specs.Laws.Lists.{flat-append, map-at, keep-append, keep-lengt
 use Rattle.model.specs.Laws.Parts.{parts-length}
 use Rattle.model.specs.Laws.CutSets.{bytes-count}
 use Rattle.model.specs.Laws.Appended.{Appended, appended-none, appended-more}
+use Rattle.model.specs.Laws.Tests.{dec}
 use Rattle.theory.specs.Proofs.Subsets.{size-at}
+use Rattle.theory.specs.Theorems.CutSets.{Idle, idle-superfluous}
 use Rattle.faults.specs.Places.{partAt, parts-left, parts-ended}
 use Rattle.partsets.specs.Sets.{Held, withPlace, partsOf, held-more, parts-more}
 use Rattle.partsets.specs.Minimal.{NoneCounts}
@@ -76,6 +91,16 @@ found-count n H b S ps k m l =
 
 -- ---- the cases
 
+-- none counts
+none-found : (n : ℕ) (H : PartHealth) (b : ℕ) (S ps : List Part) (k : ℕ) → NoneCounts n H b S k → found n H b S ps k ≡ []
+unfolding found
+none-found n H b S ps k f = keep-none (minimal n H b) (map (λ T. S ++ T) (ofSize k (keep (canFail H) ps))) go
+  where
+    go : (X : List Part) → X ∈ map (λ T. S ++ T) (ofSize k (keep (canFail H) ps)) → minimal n H b X ≡ false
+    go X m =
+        let t = map-at (λ T. S ++ T) (ofSize k (keep (canFail H) ps)) m in
+        rw (t .2) (f (t .0) (size-at k (keep (canFail H) ps) (t .1) .0))
+
 module _ (n : ℕ) (H : PartHealth) (b : ℕ) (S : List Part) where
   -- no fault is left to spend
   found-none : (ps : List Part) → minimal n H b S ≡ false → found n H b S ps 0 ≡ []
@@ -91,16 +116,6 @@ module _ (n : ℕ) (H : PartHealth) (b : ℕ) (S : List Part) where
   unfolding found ofSize keep
   found-ended zero z = absurd (z refl)
   found-ended (suc k) z = refl
-
-  -- none counts
-  found-hopeless : (ps : List Part) (k : ℕ) → NoneCounts n H b S k → found n H b S ps k ≡ []
-  unfolding found
-  found-hopeless ps k f = keep-none (minimal n H b) (map (λ T. S ++ T) (ofSize k (keep (canFail H) ps))) go
-    where
-      go : (X : List Part) → X ∈ map (λ T. S ++ T) (ofSize k (keep (canFail H) ps)) → minimal n H b X ≡ false
-      go X m =
-          let t = map-at (λ T. S ++ T) (ofSize k (keep (canFail H) ps)) m in
-          rw (t .2) (f (t .0) (size-at k (keep (canFail H) ps) (t .1) .0))
 
   -- the next part cannot fail
   found-passed : (q : Part) (ps : List Part) (k : ℕ) → canFail H q ≡ false → found n H b S (q ∷ ps) k ≡ found n H b S ps k
@@ -126,6 +141,20 @@ module _ (n : ℕ) (H : PartHealth) (b : ℕ) (S : List Part) where
       shift : (Ts : List (List Part)) → map (λ T. S ++ T) (map (λ T. q ∷ T) Ts) ≡ map (λ T. (S ++ (q ∷ [])) ++ T) Ts
       shift [] = refl
       shift (T ∷ Ts) = rw (shift Ts, append-assoc S (q ∷ []) T)
+
+  -- it is on no path: no set with it counts
+  found-idle : b < n → (q : Part) (ps : List Part) (k : ℕ) → k ≢ 0 → Idle n H q → found n H b S (q ∷ ps) k ≡ found n H b S ps k
+  found-idle hb q ps k z idle = go (dec (canFail H q))
+    where
+      held : (T : List Part) → q ∈ (S ++ (q ∷ [])) ++ T
+      held T = Memᴰ·append-left T (Memᴰ·append-right S (List·Memᴰ·head refl))
+
+      go : (canFail H q ≡ true) ⊎ (canFail H q ≡ false) → found n H b S (q ∷ ps) k ≡ found n H b S ps k
+      go (inl e) =
+          found-both q ps k z e
+          ∙ ap (λ (l : List (List Part)). l ++ found n H b S ps k)
+          (none-found n H b (S ++ (q ∷ [])) ps (k - 1) (λ T l. idle-superfluous n H b hb (held T) idle))
+      go (inr e) = found-passed q ps k e
 
 -- ---- for the code: a set is held, p is the next place, m parts are left and k faults to spend
 
@@ -171,13 +200,14 @@ module _ (n : ℕ) (H : PartHealth) (b : ℕ) (s : PartSet) (p m k : ℕ) (l : L
   ends-parts z e r = nothing-found (rw (parts-ended n p (omega arith)) (found-ended n H b (partsOf n s) k z))
 
   pub ends-hopeless : NoneCounts n H b (partsOf n s) k → Stored n H b s p k l i l i
-  ends-hopeless f = nothing-found (found-hopeless n H b (partsOf n s) (drop p (parts n)) k f)
+  ends-hopeless f = nothing-found (none-found n H b (partsOf n s) (drop p (parts n)) k f)
 
-  pub ends-passed : {p′ : ℕ} {l′ : List ℕ} {j : ℕ} → m ≢ 0 → p + m ≡ 3 * n → canFail H (partAt n p) ≡ false
+  pub ends-passed : {p′ : ℕ} {l′ : List ℕ} {j : ℕ} → b < n → k ≢ 0 → m ≢ 0 → p + m ≡ 3 * n → Idle n H (partAt n p)
       → Stored n H b s p′ k l i l′ j → p′ ≡ p + 1 → Stored n H b s p k l i l′ j
-  ends-passed y r e a next = record {
+  ends-passed hb z y r idle a next = record {
     bytes =
-        rw (parts-left n p (omega arith), found-passed n H b (partsOf n s) (partAt n p) (drop (p + 1) (parts n)) k e) (rw next at (a .bytes));
+        rw (parts-left n p (omega arith), found-idle n H b (partsOf n s) hb (partAt n p) (drop (p + 1) (parts n)) k z idle)
+        (rw next at (a .bytes));
   }
 
   -- the sets with the next part, then those without it

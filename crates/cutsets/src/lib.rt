@@ -49,7 +49,7 @@ fn search(
     if partsets::hopeless(n, health, b, set, faults) {
         return k;
     }
-    if faults::can_fail(n, health, p) {
+    if faults::matters(n, health, p) {
         let more = partsets::with_place(set, p);
         let taken = search(n, health, b, more, p + 1, parts - 1, faults - 1, buffer, k);
         return search(n, health, b, set, p + 1, parts - 1, faults, buffer, taken);

@@ -1,2 +1,3 @@
--- The parts of a ring by their places, and their further faults in a health's arrays.
+-- The parts of a ring by their places, their further faults in a health's arrays, and which of them are on no path.
 pub mod Places
+pub mod Idle

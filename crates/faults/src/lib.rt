@@ -4,22 +4,25 @@ ghost use mathlib.Core.List.{_∷_, []};
 ghost use Prim.Native.Nat.{_*_, _≤_, _<_};
 ghost use Rattle.model.specs.Values.{partCode};
 ghost use Rattle.model.specs.Reports.{healthOf};
-ghost use Rattle.model.specs.CutSets.{canFail, withFaults};
+ghost use Rattle.model.specs.CutSets.{withFaults};
 ghost use Rattle.faults.specs.Places.{partAt};
+ghost use Rattle.faults.specs.Idle.{Matters};
 use model::Health;
 use model::STUCK_OFF;
 use model::STUCK_OPEN;
 
-// "A further fault is a fit generator going off, or a breaker not stuck open becoming so.": whether the part at place p can fail.
-pub fn can_fail(n: usize, health: Health, p: usize) -> bool
+// Whether the part at place p can fail and is on a path: "A further fault is a fit generator going off, or a breaker not stuck open becoming
+// so." A generator and its breaker are on no path where one of the two is out; then neither is in any set.
+pub fn matters(n: usize, health: Health, p: usize) -> bool
     requires { ⌜ (p < 3 * n) × (n ≤ 20) ⌝ }
-    ensures { λ r. ⌜ r ≡ canFail (healthOf health) (partAt n p) ⌝ }
+    ensures { λ r. ⌜ Matters n (healthOf health) (partAt n p) r ⌝ }
 {
     if p < n {
-        return components::fit_generator(health.generators[p]);
+        return sources::may_feed(health.generators[p], health.generator_breakers[p]);
     }
     if p < n + n {
-        return health.generator_breakers[p - n] != STUCK_OPEN;
+        let k = p - n;
+        return sources::may_feed(health.generators[k], health.generator_breakers[k]);
     }
     health.bus_breakers[p - (n + n)] != STUCK_OPEN
 }

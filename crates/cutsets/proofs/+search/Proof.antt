@@ -13,7 +13,7 @@ use Rattle.cutsets.specs.Search.{taken-on, passed-on, at-part, room-take
 use Rattle.cutsets.proofs.search.Reads as search′
 use Rattle.cutsets.proofs.search.Kinds as search-kinds
 use Rattle.cutsets.proofs.+search.Lts-search as search-lts
-use Rattle.faults.proofs.can_fail.Reads as can-fail-reads
+use Rattle.faults.proofs.matters.Reads as matters-reads
 use Rattle.partsets.proofs.hopeless.Reads as hopeless-reads
 use Rattle.partsets.proofs.is_minimal.Reads as is-minimal-reads
 use Rattle.partsets.proofs.put.Reads as put-reads
@@ -39,8 +39,8 @@ calls t = (
   put-reads.Learnt,
   hopeless-reads.Asked,
   hopeless-reads.Learnt,
-  can-fail-reads.Asked,
-  can-fail-reads.Learnt,
+  matters-reads.Asked,
+  matters-reads.Learnt,
   with-place-reads.Asked,
   with-place-reads.Learnt,
   search-below t,
@@ -109,8 +109,8 @@ returns-4 t c =
     ends-hopeless (a .n) (healthOf (a .health)) (a .b) (a .set) (a .p) (a .parts) (a .faults) (a .buffer .now) (a .k)
     (c .before .hopeless .ensures (c .if4 .taken))
 
-can-fail-requires : (t : ℕ) → search-lts.Need-can-fail-requires (calls t) (search-at t) search′.Post
-can-fail-requires t c κs = let g = start t c .pre .1 .0 in (at-part g (some-parts t c), g .size)
+matters-requires : (t : ℕ) → search-lts.Need-matters-requires (calls t) (search-at t) search′.Post
+matters-requires t c κs = let g = start t c .pre .1 .0 in (at-part g (some-parts t c), g .size)
 
 with-place-requires : (t : ℕ) → search-lts.Need-with-place-requires (calls t) (search-at t) search′.Post
 with-place-requires t c κs = let d = c .before .before in omega (arith, start t d .pre .1 .0 .spend, some-faults t d)
@@ -160,7 +160,7 @@ returns-5 t c =
     let w = e .with-place in
     let few : a .set .count < 3 = omega (arith, s .pre .1 .0 .spend, z) in
     ends-both (a .n) (healthOf (a .health)) (a .b) (a .set) (a .p) (a .parts) (a .faults) (a .buffer .now) (a .k)
-    (full t s) few z (some-parts t d) (s .pre .1 .0 .rest) (sym (e .before .before .can-fail .ensures) ∙ e .before .if5 .taken) (w .ensures)
+    (full t s) few z (some-parts t d) (s .pre .1 .0 .rest) (e .before .before .matters .ensures .fails (e .before .if5 .taken)) (w .ensures)
     (c .before .before .before .before .before .before .search .ensures) (c .before .before .search2 .ensures)
     (omega arith) (omega arith) (omega arith) (omega arith)
 
@@ -183,8 +183,9 @@ returns-6 t c =
     let d = e .before .before in
     let s = start t d in
     let a = s .args in
-    ends-passed (a .n) (healthOf (a .health)) (a .b) (a .set) (a .p) (a .parts) (a .faults) (a .buffer .now) (a .k) (some-parts t d)
-    (s .pre .1 .0 .rest) (sym (e .before .can-fail .ensures) ∙ e .if5 .left) (c .before .before .search3 .ensures) (omega arith)
+    ends-passed (a .n) (healthOf (a .health)) (a .b) (a .set) (a .p) (a .parts) (a .faults) (a .buffer .now) (a .k) (s .pre .1 .0 .bus)
+    (some-faults t d) (some-parts t d) (s .pre .1 .0 .rest) (e .before .matters .ensures .idle (e .if5 .left))
+    (c .before .before .search3 .ensures) (omega arith)
 
 pub +search-spec : {M : Type 1} → statement M
 +search-spec = close μ-search λ t. search-lts.spec (calls t)
@@ -199,7 +200,7 @@ pub +search-spec : {M : Type 1} → statement M
     (returns-3 t)
     (hopeless-requires t)
     (returns-4 t)
-    (can-fail-requires t)
+    (matters-requires t)
     (with-place-requires t)
     (λ c. search needs)
     (λ c. search needs)

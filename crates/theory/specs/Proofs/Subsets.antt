@@ -140,6 +140,28 @@ proper-without end l = absurd (omega arith)
 proper-without (takes s) l = let r = proper-without s (omega arith) in (suc (r .0), omega (arith, r .1), takes (r .2))
 proper-without (skips s) l = (0, omega arith, s)
 
+-- a part of a set stands at an index, and every other is left without it
+pub part-index : {p : Part} {S : List Part} → p ∈ S → (i : ℕ) × (i < length S) × ((q : Part) → q ∈ S → (q ≡ p) ⊎ (q ∈ without i S))
+unfolding without
+part-index {p} (List·Memᴰ·head {x = x} {xs = S} e) = (0, omega arith, λ q m. go q (List·Memᴰ·cases-cons m))
+  where
+    go : (q : Part) → (q ≡ x) ⊎ (q ∈ S) → (q ≡ p) ⊎ (q ∈ S)
+    go q (inl z) = inl (z ∙ sym e)
+    go q (inr k) = inr k
+part-index {p} (List·Memᴰ·tail {x = x} {xs = S} m) = go (part-index m)
+  where
+    go : (i : ℕ) × (i < length S) × ((q : Part) → q ∈ S → (q ≡ p) ⊎ (q ∈ without i S))
+        → (i : ℕ) × (i < suc (length S)) × ((q : Part) → q ∈ x ∷ S → (q ≡ p) ⊎ (q ∈ without i (x ∷ S)))
+    go (i, l, f) = (suc i, omega arith, λ q k. pick q (List·Memᴰ·cases-cons k))
+      where
+        pick : (q : Part) → (q ≡ x) ⊎ (q ∈ S) → (q ≡ p) ⊎ (q ∈ x ∷ without i S)
+        pick q (inl e) = inr (List·Memᴰ·head e)
+        pick q (inr k) = later (f q k)
+          where
+            later : (q ≡ p) ⊎ (q ∈ without i S) → (q ≡ p) ⊎ (q ∈ x ∷ without i S)
+            later (inl e) = inl e
+            later (inr j) = inr (List·Memᴰ·tail j)
+
 -- ---- the sets of a size
 
 pub size-at : (k : ℕ) (ps : List Part) {S : List Part} → S ∈ ofSize k ps → (length S ≡ k) × Sub S ps

@@ -3,7 +3,7 @@
 use mathlib.Core.Path.{_≡_, refl, sym, _∙_, ap, ap₂}
 use mathlib.Core.Bool.{Bool, true, false, not, _&&_, cond}
 use mathlib.Core.Logic.{_⊎_, inl, inr, _↔_}
-use mathlib.Core.List.{List, [], _∷_, _++_, map, flatMap, List·Memᴰ·head, List·Memᴰ·tail, List·Memᴰ·not-nil}
+use mathlib.Core.List.{List, [], _∷_, _++_, map, flatMap, List·Memᴰ·head, List·Memᴰ·tail, List·Memᴰ·not-nil, Memᴰ·cast}
 use mathlib.Core.Option.{Option, none, some}
 use Prim.Native.Nat.{ℕ, zero, suc, _+_, _≤_, _<_}
 use native.Mathlib.Omega.{arith}
@@ -98,6 +98,7 @@ use Rattle.theory.specs.Proofs.Subsets.{
   proper-in,
   proper-at,
   without,
+  part-index,
   without-proper,
   proper-without,
   size-at,
@@ -265,6 +266,41 @@ minimal-one n H b hb S d f = minimal-of n H b S d (λ T r. go T r (dec (darkens 
         let t = proper-without (r .0) (r .1) in
         contra (darkens-more n H b hb T (without (t .0) S) (sub-within (t .2)) e) (f (t .0) (t .1))
     go T r (inr e) = e
+
+-- a part that is on no path to a bus
+abbrev pub Idle : ℕ → PartHealth → Part → Type 0
+Idle n H p = (b : ℕ) (w : Path) → Supplies n H b w → p ∈ pathParts n w → ⊥
+
+-- .. is in no minimal set: without it the bus is dark all the same
+pub idle-superfluous : (n : ℕ) (H : PartHealth) (b : ℕ) → b < n → {p : Part} {S : List Part} → p ∈ S → Idle n H p → minimal n H b S ≡ false
+unfolding darkens
+idle-superfluous n H b hb {p} {S} m idle = go (dec (darkens n H b S)) (part-index m)
+  where
+    -- a path that is usable without p is usable with it
+    same : darkens n H b S ≡ true → (i : ℕ) → ((q : Part) → q ∈ S → (q ≡ p) ⊎ (q ∈ without i S))
+        → (g : ℕ) (r : Bool) → g < n → Usable n (withFaults H (without i S)) (pathTo b g r) → ⊥
+    same e i f g r hg u =
+        supplied n H b hb S e w (record { ends = h; to-bus = refl; usable = spared-usable n H w h S v (λ q k j. spared q k (f q j)) })
+      where
+        w : Path
+        w = pathTo b g r
+
+        h : Ends n w
+        h = record { source = hg; bus = hb }
+
+        v : Usable n H w
+        v = usable-before n H w h (without i S) u
+
+        spared : (q : Part) → q ∈ pathParts n w → (q ≡ p) ⊎ (q ∈ without i S) → ⊥
+        spared q k (inl z) = idle b w (record { ends = h; to-bus = refl; usable = v }) (Memᴰ·cast (sym z) k)
+        spared q k (inr j) = usable-spared n H w h (without i S) u q k j
+
+    go : (darkens n H b S ≡ true) ⊎ (darkens n H b S ≡ false)
+        → (i : ℕ) × (i < length S) × ((q : Part) → q ∈ S → (q ≡ p) ⊎ (q ∈ without i S)) → minimal n H b S ≡ false
+    go (inr e) t = not-dark n H b S e
+    go (inl e) (i, l, f) =
+        not-least n H b S (without i S) (without-proper i S l)
+        (none-is _ (de-energized-exactly n (withFaults H (without i S)) b hb .1 (same e i f)))
 
 -- ---- what is listed
 
