@@ -20,8 +20,9 @@ use partsets::PartSet;
 // Room for all sets of at most three of sixty parts: there are 36,051.
 const ROOM: usize = 108153;
 
-// "The search takes a next part, with the faults left to spend falling, or passes it by with fewer parts left.": stores behind the first k
-// sets those that count of the parts held and `faults` more, of which `parts` are left from place p on, and answers how many there are then.
+// "The search takes a next part, with the faults left to spend falling, or passes it by with fewer parts left.": parts left plus faults left
+// fall at each call. Stores, behind the first k, the sets that count of the parts held and `faults` more of the `parts` that are left from
+// place p on, and answers how many there are then.
 fn search(
     n: usize,
     health: Health,

@@ -1,12 +1,10 @@
 -- Which parts can fail and are on a path. Generators and breakers are indices from 0.
 use mathlib.Core.Path.{_≡_, sym, _∙_, ap}
-use mathlib.Core.Bool.{Bool, true, false, not, _&&_}
+use mathlib.Core.Bool.{Bool, true, false, not}
 use Prim.Native.Nat.{ℕ}
-use native.Mathlib.Omega.{arith}
 use Rattle.model.specs.declared.Part.{Part}
-use Rattle.model.specs.Lists.{_∈_}
 use Rattle.model.specs.Plant.{PartHealth, generator, generatorBreaker, busBreaker, fit, stuckOpen}
-use Rattle.model.specs.Priority.{Path, pathParts}
+use Rattle.model.specs.Priority.{Path}
 use Rattle.model.specs.CutSets.{canFail}
 use Rattle.model.specs.Laws.Tests.{contra, not-of, and-left, and-right, and-intro}
 use Rattle.theory.specs.Proofs.Paths.{generator-on, generator-breaker-on, bus-breaker-on, path-at}

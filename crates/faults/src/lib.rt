@@ -11,8 +11,8 @@ use model::Health;
 use model::STUCK_OFF;
 use model::STUCK_OPEN;
 
-// Whether the part at place p can fail and is on a path: "A further fault is a fit generator going off, or a breaker not stuck open becoming
-// so." A generator and its breaker are on no path where one of the two is out; then neither is in any set.
+// Whether the part at place p can fail and is on a path: "A further fault is a fit generator going off, or a breaker not stuck open
+// becoming so." A generator and its breaker are on no path where one of the two is out; then neither is in any set.
 pub fn matters(n: usize, health: Health, p: usize) -> bool
     requires { ⌜ (p < 3 * n) × (n ≤ 20) ⌝ }
     ensures { λ r. ⌜ Matters n (healthOf health) (partAt n p) r ⌝ }

@@ -1,25 +1,23 @@
 -- What a call of the list says, served or refused, and the text that is made of it.
-use mathlib.Core.Path.{_≡_, refl, sym, _∙_, ap}
-use mathlib.Core.Bool.{Bool, true, false, cond}
+use mathlib.Core.Path.{_≡_, refl, _∙_, ap}
+use mathlib.Core.Bool.{true, false}
 use mathlib.Core.Logic.{_⊎_, inl, inr, _≢_}
-use mathlib.Core.List.{List, [], _∷_, _++_}
+use mathlib.Core.List.{List, []}
 use Prim.Native.Nat.{ℕ, _+_, _*_, _≤_, _<_}
 use native.Mathlib.Omega.{arith}
-use lib.Dec.{ltb, eqb}
-use lib.ListN.{length, drop, length-append}
-use borrow.Author.Tests.{eq-eqb, ne-eqb, ltb-false, le-ltb}
+use lib.ListN.{length, drop}
+use borrow.Author.Tests.{eq-eqb, ne-eqb, ltb-false}
 use Rattle.model.specs.declared.Part.{Part}
 use Rattle.model.specs.declared.Ring.{Ring}
 use Rattle.model.specs.declared.Outcome.the-variants.{Served, Refused}
 use Rattle.model.specs.declared.CutSetsAnswer.{CutSetsAnswer}
-use Rattle.model.specs.Lists.{_∈_}
 use Rattle.model.specs.Values.{index}
-use Rattle.model.specs.Plant.{smallest, largest}
+use Rattle.model.specs.Plant.{largest}
 use Rattle.model.specs.Sheet.{written}
 use Rattle.model.specs.Reports.{healthOf}
 use Rattle.model.specs.Refusals.{firstMet, tooShort, badRecord, busOutside}
 use Rattle.model.specs.CutSets.{cutSheet, ringCutSets, cutSetsRefusal, refusedCutSets, servedCutSets, cutSetsReply}
-use Rattle.model.specs.CutText.{cutText, sheetRoom, textRoom, busCutText}
+use Rattle.model.specs.CutText.{sheetRoom, textRoom, busCutText}
 use Rattle.model.specs.Laws.Tests.{dec, dec-eq}
 use Rattle.model.specs.Laws.Refusals.{good-size, bus-inside, served-refused}
 use Rattle.model.specs.Laws.CutSets.{cut-sheet-length}

@@ -4,15 +4,13 @@ use mathlib.Core.Bool.{false}
 use mathlib.Core.List.{List, map}
 use Prim.Native.Nat.{ℕ, suc, _≤_, _<_}
 use native.Mathlib.Omega.{arith}
-use lib.Dec.{ltb}
 use lib.ListN.{length}
 use borrow.Author.Tests.{le-ltb}
 use Rattle.model.specs.declared.Ring.{Ring}
 use Rattle.model.specs.Lists.{below}
-use Rattle.model.specs.Plant.{largest}
 use Rattle.model.specs.Reports.{fileSize, fileCount, healthOf, withPlan}
 use Rattle.model.specs.Refusals.{firstMet, tooShort, badRecord, busOutside, fileRefusal}
-use Rattle.model.specs.Text.{joined, runRing}
+use Rattle.model.specs.Text.{joined}
 use Rattle.model.specs.CutSets.{cutSheet, ringCutSets, cutSetsRefusal}
 use Rattle.model.specs.CutText.{cutText, sheetRoom, busCutText, latestRing, printedCutSets}
 use Rattle.model.specs.Laws.Lists.{below-lt, map-ext}
@@ -22,7 +20,8 @@ use Rattle.cutsets.specs.Sizes.{cut-sets-few}
 use Rattle.cursor.specs.Run.{ring-good}
 
 -- a good ring state and a bus of it: the list is not refused, and the text is the bus's
-pub bus-text : (ring : Ring) (b : ℕ) → badRecord ring ≡ false → b < ring .n → busCutText ring (suc b) ≡ cutText (suc b) (ringCutSets ring (suc b))
+pub bus-text : (ring : Ring) (b : ℕ) → badRecord ring ≡ false → b < ring .n
+    → busCutText ring (suc b) ≡ cutText (suc b) (ringCutSets ring (suc b))
 unfolding busCutText cutSetsRefusal firstMet busOutside tooShort ringCutSets
 bus-text ring b good inside =
     let few = cut-sets-few (ring .n) (healthOf (ring .health)) b (good-size ring good .1) in

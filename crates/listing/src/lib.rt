@@ -1,4 +1,5 @@
-// The minimal cut sets of a bus of a ring state as text in a lent buffer: its line, as `B3 10`, then a line a set. Buses are numbers, from 1.
+// The minimal cut sets of a bus of a ring state as text in a lent buffer: its line, as `B3 10`, then a line a set. Buses are numbers,
+// from 1.
 ghost use mathlib.Core.Path.{_≡_};
 ghost use Prim.Native.Nat.{_≤_};
 ghost use lib.ListN.{length};

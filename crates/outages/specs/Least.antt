@@ -1,11 +1,10 @@
 -- How many faults leave a bus dark: at least one for each of its paths that have no part in common. Buses are indices from 0.
 use mathlib.Core.Path.{_≡_, refl, sym, _∙_, ap}
-use mathlib.Core.Bool.{Bool, true, false, not, _&&_, cond}
+use mathlib.Core.Bool.{Bool, true, false, not}
 use mathlib.Core.Logic.{_⊎_, inl, inr, _≢_}
 use mathlib.Core.List.{List, [], _∷_, List·Memᴰ·not-nil}
-use Prim.Native.Nat.{ℕ, suc, _+_, _≤_, _<_}
+use Prim.Native.Nat.{ℕ, _+_, _≤_, _<_}
 use native.Mathlib.Omega.{arith}
-use lib.Dec.{ltb, eqb}
 use lib.ListN.{length}
 use borrow.Author.Tests.{not-true, eq-eqb, ne-eqb, lt-ltb, le-ltb}
 use Rattle.model.specs.declared.Part.{Part}
@@ -17,23 +16,10 @@ use Rattle.model.specs.CutSets.{withFaults, darkens}
 use Rattle.model.specs.Laws.Tests.{contra, not-of, and-left, and-right, and-intro, dec, dec-eq, dec-lt}
 use Rattle.model.specs.Laws.Lists.{all-cons}
 use Rattle.theory.specs.Proofs.Geometry.{up-refl, up-triangle, up-through}
-use Rattle.theory.specs.Proofs.Paths.{
-  Ends,
-  OnPath,
-  at-generator,
-  at-generator-breaker,
-  at-bus-breaker,
-  pathTo,
-  on-path,
-  path-at,
-  generator-on,
-  generator-breaker-on,
-  bus-breaker-on,
-}
+use Rattle.theory.specs.Proofs.Paths.{OnPath, at-generator, at-generator-breaker, at-bus-breaker, pathTo, on-path, path-at, generator-on, generator-breaker-on, bus-breaker-on}
 use Rattle.theory.specs.Theorems.Connected.{Arc, leads-arcs}
 use Rattle.theory.specs.Theorems.CutSets.{dark-exactly, Supplies, Disjoint, no-path, one-more-path, disjoint-faults}
 use Rattle.sources.specs.Sources.{mayFeed}
-use Rattle.walks.specs.Walk.{steps}
 use Rattle.outages.specs.Sides.{passable, Leading, Met, foundAt, sidePaths, steps-some}
 
 -- no set of fewer than k further faults leaves bus b dark; where k is 0, it is dark

@@ -1,35 +1,16 @@
 -- The walk out from a bus on one side to the first generator that may feed. Buses and breakers are indices from 0.
-use mathlib.Core.Path.{_≡_, refl, sym, _∙_, ap}
+use mathlib.Core.Path.{_≡_, sym, _∙_, ap}
 use mathlib.Core.Bool.{Bool, true, false, not, cond}
 use mathlib.Core.Logic.{_⊎_, inl, inr, _≢_}
-use Prim.Native.Nat.{ℕ, zero, suc, _+_, _≤_, _<_}
+use Prim.Native.Nat.{ℕ, suc, _+_, _≤_, _<_}
 use native.Mathlib.Omega.{arith}
 use lib.Dec.{ltb, eqb}
 use borrow.Author.Tests.{not-true, eq-eqb, ne-eqb, lt-ltb, le-ltb}
 use Rattle.model.specs.Plant.{PartHealth, busBreaker, stuckOpen, next, up}
 use Rattle.model.specs.Laws.Tests.{contra, not-of, dec-eq, dec-lt}
-use Rattle.theory.specs.Proofs.Geometry.{
-  Next,
-  more,
-  last,
-  next-cases,
-  next-lt,
-  Up,
-  fwd,
-  wrap,
-  up-cases,
-  up-refl,
-  up-zero,
-  up-lt,
-  up-through,
-  up-past,
-  up-next,
-  up-next-right,
-  up-inj,
-  up-inj-left,
-}
-use Rattle.theory.specs.Theorems.Connected.{Arc, arc-longer}
-use Rattle.walks.specs.Walk.{previous, next-previous, up-previous, breakerBeside, busBeside, Closed, steps, breaker-lt, bus-lt}
+use Rattle.theory.specs.Proofs.Geometry.{Next, more, last, next-cases, Up, fwd, wrap, up-cases, up-refl, up-zero, up-lt, up-past, up-next, up-next-right, up-inj, up-inj-left}
+use Rattle.theory.specs.Theorems.Connected.{arc-longer}
+use Rattle.walks.specs.Walk.{previous, next-previous, up-previous, breakerBeside, busBeside, Closed, steps, bus-lt}
 use Rattle.sources.specs.Sources.{mayFeed}
 
 -- bus breaker i is not stuck open

@@ -91,7 +91,8 @@ map-drop f (suc i) [] = refl
 map-drop f (suc i) (x ∷ l) = map-drop f i l
 
 -- the parts before an index and those after it
-without-parts : (n : ℕ) (s : PartSet) (i : ℕ) → i < s .count → without i (partsOf n s) ≡ partsFrom n s 0 i ++ partsFrom n s (i + 1) (s .count)
+without-parts : (n : ℕ) (s : PartSet) (i : ℕ) → i < s .count
+    → without i (partsOf n s) ≡ partsFrom n s 0 i ++ partsFrom n s (i + 1) (s .count)
 unfolding without partsOf partsFrom
 without-parts n s i h =
     rw (add-one, map-take (partAt n) i (take (s .count) (s .places)), map-drop (partAt n) (suc i) (take (s .count) (s .places)))

@@ -1,7 +1,7 @@
 -- `cutsets::search` meets its contract. The measure: parts left plus faults left.
-use mathlib.Core.Path.{_≡_, sym, _∙_}
+use mathlib.Core.Path.{_≡_}
 use mathlib.Core.Logic.{_≢_}
-use Prim.Native.Nat.{ℕ, _<_, _+_, _-_, _*_}
+use Prim.Native.Nat.{ℕ, _<_, _+_, _-_}
 use native.Mathlib.Omega.{arith}
 use lib.ListN.{length}
 use borrow.Author.Needs.{needs}
@@ -144,8 +144,8 @@ search-requires-2 t c κs =
         omega (
           arith,
           f .kept,
-          room-both (a .parts) (a .faults) (a .k) _ z y (s .pre .1 .1) {m′ = a .parts - 1} (more-found (a .parts - 1) (f .ensures) (omega (arith, g .rest)))
-              (omega arith) (omega arith),
+          room-both (a .parts) (a .faults) (a .k) _ z y (s .pre .1 .1) {m′ = a .parts - 1}
+              (more-found (a .parts - 1) (f .ensures) (omega (arith, g .rest))) (omega arith) (omega arith),
         ),
       ),
     )

@@ -19,15 +19,18 @@ returns-2 : tie.Need-returns-2
 returns-2 c =
     let a = c .before .before .args in
     let full : length (a .health .«generator_breakers») ≡ 20 = search needs in
-    rw (in-second (a .n) (a .p) (c .before .if1 .left) (c .if2 .taken)) (fault-stored (a .health) (generatorBreaker (a .p - a .n)) (a .p - a .n) refl (omega arith))
+    rw (in-second (a .n) (a .p) (c .before .if1 .left) (c .if2 .taken))
+    (fault-stored (a .health) (generatorBreaker (a .p - a .n)) (a .p - a .n) refl (omega arith))
 
 returns-3 : tie.Need-returns-3
 returns-3 c =
     let a = c .before .before .args in
     let full : length (a .health .«bus_breakers») ≡ 20 = search needs in
-    rw (in-third (a .n) (a .p) (c .if2 .left)) (fault-stored (a .health) (busBreaker (a .p - (a .n + a .n))) (a .p - (a .n + a .n)) refl (omega arith))
+    rw (in-third (a .n) (a .p) (c .if2 .left))
+    (fault-stored (a .health) (busBreaker (a .p - (a .n + a .n))) (a .p - (a .n + a .n)) refl (omega arith))
 
 pub failed-spec : {M : Type 1} → statement M
 failed-spec =
     tie.close
-    (tie.spec (λ c. search needs) returns (λ c. search needs) (λ c. search needs) returns-2 (λ c. search needs) (λ c. search needs) (λ c. search needs) returns-3)
+    (tie.spec (λ c. search needs) returns (λ c. search needs) (λ c. search needs) returns-2 (λ c. search needs) (λ c. search needs)
+    (λ c. search needs) returns-3)

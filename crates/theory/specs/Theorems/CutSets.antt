@@ -1,11 +1,11 @@
 -- Minimal cut sets (document 02, Note 1): what leaves a bus dark, that more faults never give it light, how many faults it takes at
 -- least, what is listed and in which order, and what does not matter.
 use mathlib.Core.Path.{_≡_, refl, sym, _∙_, ap, ap₂}
-use mathlib.Core.Bool.{Bool, true, false, not, _&&_, cond}
+use mathlib.Core.Bool.{Bool, true, false, not, _&&_}
 use mathlib.Core.Logic.{_⊎_, inl, inr, _↔_}
-use mathlib.Core.List.{List, [], _∷_, _++_, map, flatMap, List·Memᴰ·head, List·Memᴰ·tail, List·Memᴰ·not-nil, Memᴰ·cast}
+use mathlib.Core.List.{List, [], _∷_, map, flatMap, List·Memᴰ·head, List·Memᴰ·tail, List·Memᴰ·not-nil, Memᴰ·cast}
 use mathlib.Core.Option.{Option, none, some}
-use Prim.Native.Nat.{ℕ, zero, suc, _+_, _≤_, _<_}
+use Prim.Native.Nat.{ℕ, zero, suc, _≤_, _<_}
 use native.Mathlib.Omega.{arith}
 use lib.ListN.{length, getD, length-map}
 use borrow.Author.Tests.{not-true}
@@ -13,24 +13,7 @@ use Rattle.model.specs.declared.Part.{Part}
 use Rattle.model.specs.declared.Part.the-variants.{Generator, GeneratorBreaker, BusBreaker}
 use Rattle.model.specs.Lists.{below, keep, first, anyOf, allOf, isNone, _∈_, RisingBy, empty}
 use Rattle.model.specs.Values.{partCode, samePart}
-use Rattle.model.specs.Plant.{
-  PartHealth,
-  largest,
-  generator,
-  generatorBreaker,
-  busBreaker,
-  parts,
-  fit,
-  fitGenerator,
-  stuckOpen,
-  InRing,
-  Leads,
-  next,
-  up,
-  arc,
-  connected,
-  Reaches,
-}
+use Rattle.model.specs.Plant.{PartHealth, largest, generator, generatorBreaker, busBreaker, parts, fit, stuckOpen, InRing, next, up, arc, connected, Reaches}
 use Rattle.model.specs.Priority.{Path, others, sources, pathBusBreakers, pathBreakers, pathParts, highRises, pathsFrom, paths}
 use Rattle.model.specs.Choosing.{onPaths, usable, countedClosed, isolated, permitted, choose, addPath, chosen, plan}
 use Rattle.model.specs.Reports.{allFit, reported}
@@ -47,23 +30,8 @@ use Rattle.model.specs.CutSets.{
   sizesBelow,
   cutSets,
 }
-use Rattle.model.specs.Laws.Tests.{never, contra, not-of, and-left, and-right, and-intro, iff, dec}
-use Rattle.model.specs.Laws.Lists.{
-  all-cons,
-  below-in,
-  below-lt,
-  any-at,
-  any-in,
-  any-false,
-  any-none,
-  any-ext,
-  keep-at,
-  keep-in,
-  keep-ext,
-  keep-none,
-  keep-append,
-  rising-keep,
-}
+use Rattle.model.specs.Laws.Tests.{contra, not-of, and-left, and-right, and-intro, iff, dec}
+use Rattle.model.specs.Laws.Lists.{all-cons, any-false, any-none, any-ext, keep-at, keep-in, keep-ext, rising-keep}
 use Rattle.model.specs.Laws.Parts.{parts-in, parts-at, parts-rise}
 use Rattle.model.specs.Laws.CutSets.{failed, kept, in-or-out, common-or-apart}
 use Rattle.theory.specs.Theorems.Connected.{leads-mono}
@@ -88,28 +56,7 @@ use Rattle.theory.specs.Proofs.Paths.{
   line-on,
 }
 use Rattle.theory.specs.Proofs.Choosing.{Usable}
-use Rattle.theory.specs.Proofs.Subsets.{
-  Within,
-  sub-within,
-  sub-none,
-  sub-front,
-  sub-rising,
-  rising-sub,
-  proper-in,
-  proper-at,
-  without,
-  part-index,
-  without-proper,
-  proper-without,
-  size-at,
-  sizes-at,
-  sizes-in,
-  sizes-next,
-  order-once,
-  order-only,
-  order-keep,
-  order-sizes,
-}
+use Rattle.theory.specs.Proofs.Subsets.{Within, sub-within, sub-none, sub-rising, rising-sub, proper-in, proper-at, without, part-index, without-proper, proper-without, sizes-at, sizes-in, order-once, order-only, order-keep, order-sizes}
 
 -- ---- dark by choosing is dark by reaching
 
@@ -177,7 +124,8 @@ module _ (n : ℕ) (H : PartHealth) (b : ℕ) (hb : b < n) where
   supplied : (S : List Part) → darkens n H b S ≡ true → (w : Path) → Supplies n (withFaults H S) b w → ⊥
   unfolding darkens
   supplied S e w s =
-      de-energized-exactly n (withFaults H S) b hb .0 (is-none _ e) (w .source) (w .rising) (s .ends .source) (rw (s .to-bus) at (s .usable))
+      de-energized-exactly n (withFaults H S) b hb .0 (is-none _ e) (w .source) (w .rising) (s .ends .source)
+      (rw (s .to-bus) at (s .usable))
 
   -- more faults leave a dark bus dark
   pub darkens-more : (S T : List Part) → Within S T → darkens n H b S ≡ true → darkens n H b T ≡ true
