@@ -10,7 +10,7 @@ use native.Mathlib.Numerals.{add-one}
 use native.Mathlib.Omega.{arith}
 use lib.Dec.{eqb}
 use lib.ListN.{length, getD, length-append, length-map, List·getD-append, List·getD-map}
-use lib.Seq.{length-take-le, getD-append-add, ext-getD}
+use lib.Seq.{getD-append-add, ext-getD}
 use borrow.Author.Tests.{eq-eqb, ne-eqb}
 use Rattle.model.specs.declared.Part.{Part}
 use Rattle.model.specs.declared.Part.the-variants.{Generator, GeneratorBreaker, BusBreaker}
@@ -23,6 +23,7 @@ use Rattle.model.specs.CutText.{setLine, countLine, cutText}
 use Rattle.model.specs.Laws.Tests.{dec-eq}
 use Rattle.model.specs.Laws.Lists.{at-in, below-length, map-below-at, map-at}
 use Rattle.model.specs.Laws.Parts.{index-suc}
+use Rattle.model.specs.Laws.CutSets.{bytes-length}
 use Rattle.model.specs.Laws.Appended.{Appended, appended-none, appended-more}
 use Rattle.model.specs.Laws.Spaced.{joined-one, joined-length}
 use Rattle.numbers.specs.Numbers.{marked, decimal-length}
@@ -179,19 +180,15 @@ text-length bus count bytes h l =
 
 -- ---- the text of a sheet is the model's
 
-set-bytes : (S : List Part) → length (setBytes S) ≡ 3
-unfolding setBytes
-set-bytes S = length-take-le 3 (map partCode S ++ (255 ∷ 255 ∷ 255 ∷ [])) (simp length-append (omega arith))
-
 -- byte j of set i, behind the count ..
 byte-at : (sets : List (List Part)) (rest : List ℕ) (i j : ℕ) → i < length sets → j < 3
     → getD (flatMap setBytes sets ++ rest) (3 * i + j) 0 ≡ getD (setBytes (getD sets i [])) j 0
 unfolding flatMap
 byte-at [] rest i j h l = absurd (omega arith)
 byte-at (S ∷ sets) rest zero j h l =
-    rw (zero-add, append-assoc) (List·getD-append (setBytes S) (flatMap setBytes sets ++ rest) 0 j (omega (arith, set-bytes S)))
+    rw (zero-add, append-assoc) (List·getD-append (setBytes S) (flatMap setBytes sets ++ rest) 0 j (omega (arith, bytes-length S)))
 byte-at (S ∷ sets) rest (suc i) j h l =
-    let e : 3 * suc i + j ≡ length (setBytes S) + (3 * i + j) = omega (arith, set-bytes S) in
+    let e : 3 * suc i + j ≡ length (setBytes S) + (3 * i + j) = omega (arith, bytes-length S) in
     rw (e, append-assoc)
     (getD-append-add (setBytes S) (flatMap setBytes sets ++ rest) (3 * i + j) 0 ∙ byte-at sets rest i j (omega arith) l)
 

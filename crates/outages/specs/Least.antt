@@ -16,10 +16,11 @@ use Rattle.model.specs.CutSets.{withFaults, darkens}
 use Rattle.model.specs.Laws.Tests.{contra, not-of, and-left, and-right, and-intro, dec, dec-eq, dec-lt}
 use Rattle.model.specs.Laws.Lists.{all-cons}
 use Rattle.theory.specs.Proofs.Geometry.{up-refl, up-triangle, up-through}
-use Rattle.theory.specs.Proofs.Paths.{OnPath, at-generator, at-generator-breaker, at-bus-breaker, pathTo, on-path, path-at, generator-on, generator-breaker-on, bus-breaker-on}
+use Rattle.theory.specs.Proofs.Paths.{Uses, OnPath, at-generator, at-generator-breaker, at-bus-breaker, pathTo, on-path, path-at, generator-on, generator-breaker-on, bus-breaker-on}
 use Rattle.theory.specs.Theorems.Connected.{Arc, leads-arcs}
 use Rattle.theory.specs.Theorems.CutSets.{dark-exactly, Supplies, Disjoint, no-path, one-more-path, disjoint-faults}
 use Rattle.sources.specs.Sources.{mayFeed}
+use Rattle.walks.specs.Walk.{Closed}
 use Rattle.outages.specs.Sides.{passable, Leading, Met, foundAt, sidePaths, steps-some}
 
 -- no set of fewer than k further faults leaves bus b dark; where k is 0, it is dark
@@ -45,20 +46,22 @@ module _ (n : ℕ) (H : PartHealth) (b : ℕ) (hb : b < n) where
         usable = record { runs = t .0; breaker = t .1; line = λ i hi l. absurd (omega (arith, up-refl n b hb)) };
       }
 
+  -- the breakers of the path from a side are those of its line
+  side-line : (r : Bool) (g : ℕ) → Closed n (passable H) r b g → (i : ℕ) → i < n → Uses n (pathTo b g (not r)) i → passable H i ≡ true
+  side-line true g f = f
+  side-line false g f = f
+
   side-supplies : (r : Bool) (g : ℕ) → Leading n H r b g → Supplies n H b (pathTo b g (not r))
-  side-supplies true g l =
+  side-supplies r g l =
       let t = may-feed-at g (l .feeding) in
       record {
         ends = record { source = l .inside; bus = hb };
         to-bus = refl;
-        usable = record { runs = t .0; breaker = t .1; line = λ i hi u. not-true (stuckOpen (H (busBreaker i))) (l .line i hi u) };
-      }
-  side-supplies false g l =
-      let t = may-feed-at g (l .feeding) in
-      record {
-        ends = record { source = l .inside; bus = hb };
-        to-bus = refl;
-        usable = record { runs = t .0; breaker = t .1; line = λ i hi u. not-true (stuckOpen (H (busBreaker i))) (l .line i hi u) };
+        usable = record {
+          runs = t .0;
+          breaker = t .1;
+          line = λ i hi u. not-true (stuckOpen (H (busBreaker i))) (side-line r g (l .line) i hi u);
+        };
       }
 
   -- ---- no part in common
