@@ -16,7 +16,19 @@ use Rattle.model.specs.CutSets.{withFaults, darkens}
 use Rattle.model.specs.Laws.Tests.{contra, not-of, and-left, and-right, and-intro, dec, dec-eq, dec-lt}
 use Rattle.model.specs.Laws.Lists.{all-cons}
 use Rattle.theory.specs.Proofs.Geometry.{up-refl, up-triangle, up-through}
-use Rattle.theory.specs.Proofs.Paths.{Uses, OnPath, at-generator, at-generator-breaker, at-bus-breaker, pathTo, on-path, path-at, generator-on, generator-breaker-on, bus-breaker-on}
+use Rattle.theory.specs.Proofs.Paths.{
+  Uses,
+  OnPath,
+  at-generator,
+  at-generator-breaker,
+  at-bus-breaker,
+  pathTo,
+  on-path,
+  path-at,
+  generator-on,
+  generator-breaker-on,
+  bus-breaker-on,
+}
 use Rattle.theory.specs.Theorems.Connected.{Arc, leads-arcs}
 use Rattle.theory.specs.Theorems.CutSets.{dark-exactly, Supplies, Disjoint, no-path, one-more-path, disjoint-faults}
 use Rattle.sources.specs.Sources.{mayFeed}

@@ -8,7 +8,24 @@ use lib.Dec.{ltb, eqb}
 use borrow.Author.Tests.{not-true, eq-eqb, ne-eqb, lt-ltb, le-ltb}
 use Rattle.model.specs.Plant.{PartHealth, busBreaker, stuckOpen, next, up}
 use Rattle.model.specs.Laws.Tests.{contra, not-of, dec-eq, dec-lt}
-use Rattle.theory.specs.Proofs.Geometry.{Next, more, last, next-cases, Up, fwd, wrap, up-cases, up-refl, up-zero, up-lt, up-past, up-next, up-next-right, up-inj, up-inj-left}
+use Rattle.theory.specs.Proofs.Geometry.{
+  Next,
+  more,
+  last,
+  next-cases,
+  Up,
+  fwd,
+  wrap,
+  up-cases,
+  up-refl,
+  up-zero,
+  up-lt,
+  up-past,
+  up-next,
+  up-next-right,
+  up-inj,
+  up-inj-left,
+}
 use Rattle.theory.specs.Theorems.Connected.{arc-longer}
 use Rattle.walks.specs.Walk.{previous, next-previous, up-previous, breakerBeside, busBeside, Closed, steps, bus-lt}
 use Rattle.sources.specs.Sources.{mayFeed}

@@ -20,7 +20,16 @@ use Rattle.model.specs.declared.ReportAnswer.the-variants as report
 use Rattle.model.specs.Values.{partCode, wordNumber, numbered, reportValues}
 use Rattle.model.specs.Plant.{InRing}
 use Rattle.model.specs.Reports.{partNamed, wordNamed}
-use Rattle.model.specs.Refusals.{firstMet, notOfRing, wordOfOtherKind, generatorFitAgain, reportConditions, reportOf, reportAnswer, reportRefusal}
+use Rattle.model.specs.Refusals.{
+  firstMet,
+  notOfRing,
+  wordOfOtherKind,
+  generatorFitAgain,
+  reportConditions,
+  reportOf,
+  reportAnswer,
+  reportRefusal,
+}
 use Rattle.model.specs.Answers.{partAnswer, wordAnswer, reportAt, reportValuesAt}
 use Rattle.model.specs.Laws.Tests.{dec}
 use Rattle.model.specs.Laws.Reports.{code-named}

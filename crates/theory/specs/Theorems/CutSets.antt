@@ -13,7 +13,22 @@ use Rattle.model.specs.declared.Part.{Part}
 use Rattle.model.specs.declared.Part.the-variants.{Generator, GeneratorBreaker, BusBreaker}
 use Rattle.model.specs.Lists.{below, keep, first, anyOf, allOf, isNone, _∈_, RisingBy, empty}
 use Rattle.model.specs.Values.{partCode, samePart}
-use Rattle.model.specs.Plant.{PartHealth, largest, generator, generatorBreaker, busBreaker, parts, fit, stuckOpen, InRing, next, up, arc, connected, Reaches}
+use Rattle.model.specs.Plant.{
+  PartHealth,
+  largest,
+  generator,
+  generatorBreaker,
+  busBreaker,
+  parts,
+  fit,
+  stuckOpen,
+  InRing,
+  next,
+  up,
+  arc,
+  connected,
+  Reaches,
+}
 use Rattle.model.specs.Priority.{Path, others, sources, pathBusBreakers, pathBreakers, pathParts, highRises, pathsFrom, paths}
 use Rattle.model.specs.Choosing.{onPaths, usable, countedClosed, isolated, permitted, choose, addPath, chosen, plan}
 use Rattle.model.specs.Reports.{allFit, reported}
@@ -56,7 +71,25 @@ use Rattle.theory.specs.Proofs.Paths.{
   line-on,
 }
 use Rattle.theory.specs.Proofs.Choosing.{Usable}
-use Rattle.theory.specs.Proofs.Subsets.{Within, sub-within, sub-none, sub-rising, rising-sub, proper-in, proper-at, without, part-index, without-proper, proper-without, sizes-at, sizes-in, order-once, order-only, order-keep, order-sizes}
+use Rattle.theory.specs.Proofs.Subsets.{
+  Within,
+  sub-within,
+  sub-none,
+  sub-rising,
+  rising-sub,
+  proper-in,
+  proper-at,
+  without,
+  part-index,
+  without-proper,
+  proper-without,
+  sizes-at,
+  sizes-in,
+  order-once,
+  order-only,
+  order-keep,
+  order-sizes,
+}
 
 -- ---- dark by choosing is dark by reaching
 
