@@ -2,15 +2,16 @@
 -- least, what is listed and in which order, and what does not matter.
 use mathlib.Core.Path.{_≡_, refl, sym, _∙_, ap, ap₂}
 use mathlib.Core.Bool.{Bool, true, false, not, _&&_}
-use mathlib.Core.Logic.{_⊎_, inl, inr, _↔_}
+use mathlib.Core.Logic.{_⊎_, inl, inr, _↔_, _≢_}
 use mathlib.Core.List.{List, [], _∷_, map, flatMap, List·Memᴰ·head, List·Memᴰ·tail, List·Memᴰ·not-nil, Memᴰ·cast}
 use mathlib.Core.Option.{Option, none, some}
 use Prim.Native.Nat.{ℕ, zero, suc, _≤_, _<_}
 use native.Mathlib.Omega.{arith}
 use lib.ListN.{length, getD, length-map}
-use borrow.Author.Tests.{not-true}
+use borrow.Author.Tests.{not-true, eq-eqb, ne-eqb}
 use Rattle.model.specs.declared.Part.{Part}
 use Rattle.model.specs.declared.Part.the-variants.{Generator, GeneratorBreaker, BusBreaker}
+use Rattle.model.specs.declared.Word.the-variants.{StuckClosed}
 use Rattle.model.specs.Lists.{below, keep, first, anyOf, allOf, isNone, _∈_, RisingBy, empty}
 use Rattle.model.specs.Values.{partCode, samePart}
 use Rattle.model.specs.Plant.{
@@ -45,7 +46,7 @@ use Rattle.model.specs.CutSets.{
   sizesBelow,
   cutSets,
 }
-use Rattle.model.specs.Laws.Tests.{contra, not-of, and-left, and-right, and-intro, iff, dec}
+use Rattle.model.specs.Laws.Tests.{contra, not-of, and-left, and-right, and-intro, iff, dec, dec-eq}
 use Rattle.model.specs.Laws.Lists.{all-cons, any-false, any-none, any-ext, keep-at, keep-in, keep-ext, rising-keep}
 use Rattle.model.specs.Laws.Parts.{parts-in, parts-at, parts-rise}
 use Rattle.model.specs.Laws.CutSets.{failed, kept, in-or-out, common-or-apart}
@@ -411,6 +412,19 @@ cut-sets-alike n H K a b hb =
 
     same : (S : List Part) → darkens n H b S ≡ darkens n K b S
     same S = iff (darkens n H b S) (darkens n K b S) (into H K a S) (into K H (turned a) S)
+
+-- so a breaker that sticks closed changes no list
+pub stuck-closed-same : (n : ℕ) (H : PartHealth) (i : ℕ) → stuckOpen (H (busBreaker i)) ≡ false → (b : ℕ) → b < n
+    → cutSets n H b ≡ cutSets n (reported H (record { part = busBreaker i; word = StuckClosed })) b
+unfolding reported samePart
+stuck-closed-same n H i e b hb =
+    cut-sets-alike n H (reported H (record { part = busBreaker i; word = StuckClosed }))
+    (record { generators = λ g h. refl; generator-breakers = λ g h. refl; bus-breakers = λ j h. go j (dec-eq (suc j) (suc i)) }) b hb
+  where
+    go : (j : ℕ) → (suc j ≡ suc i) ⊎ (suc j ≢ suc i)
+        → stuckOpen (H (busBreaker j)) ≡ stuckOpen (reported H (record { part = busBreaker i; word = StuckClosed }) (busBreaker j))
+    go j (inl z) = rw (eq-eqb (suc j) (suc i) z) (ap (λ k. stuckOpen (H (BusBreaker k))) z ∙ e)
+    go j (inr z) = rw (ne-eqb (suc j) (suc i) z)
 
 -- ---- worked examples
 
