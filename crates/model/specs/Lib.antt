@@ -12,3 +12,4 @@ pub mod Answers
 pub mod Text
 pub mod CutSets
 pub mod CutText
+pub mod Scans

@@ -93,6 +93,10 @@ badRecord ring =
 unfoldable pub busOutside : ℕ → ℕ → Bool
 busOutside n bus = ltb bus 1 || ltb n bus
 
+-- 11 (document 02): "a count above 64"
+unfoldable pub countAbove : ℕ → Bool
+countAbove k = ltb 64 k
+
 -- the sheet from a ring's standing commands to those that its health calls for
 unfoldable pub nextSheet : Ring → List ℕ
 nextSheet ring = sheet (ring .n) (commandsOf (ring .commands)) (planned ring)

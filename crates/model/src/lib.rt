@@ -22,6 +22,13 @@ pub struct Report {
     pub word: Word,
 }
 
+// What the relay scanner "found in a cycle, up to 64 reports, as 64 places and a count; places past the count are not read" (document 02).
+// A byte counts, so that a count above 64 can be handed in and refused.
+pub struct Scan {
+    pub reports: [Report; 64],
+    pub count: u8,
+}
+
 // A health is the number of the word that brought it about: "0 fit again, 1 stuck off (generators), 2 stuck open, 3 stuck closed
 // (breakers)".
 pub const FIT: u8 = 0;
@@ -85,7 +92,7 @@ pub enum Outcome {
     Refused(u8),
 }
 
-// What a start or a step answers.
+// What a start, a step or a scan answers.
 pub struct RingAnswer {
     pub outcome: Outcome,
     pub ring: Ring,
