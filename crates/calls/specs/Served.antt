@@ -27,7 +27,8 @@ use Rattle.model.specs.Laws.Choosing.{choices-at, choice-source}
 use Rattle.theory.specs.Proofs.Choosing.{chosen-ends}
 use Rattle.demands.specs.Proofs.Operations.{opening-at, closing-at}
 use Rattle.demands.specs.Statements.Records.{started}
-use Rattle.demands.specs.Theorems.Records.{step-good, made-good}
+use Rattle.demands.specs.Statements.Demand3.{step}
+use Rattle.demands.specs.Theorems.Records.{call-good, made-good}
 use Rattle.buses.specs.Buses.{AllNamed, Named}
 use Rattle.lines.specs.SheetLine.{SheetBytes, sheetLine, sheet-is, sheet-line}
 use Rattle.calls.specs.Lines.{Shown}
@@ -150,4 +151,4 @@ pub next-good : (ring : Ring) → badRecord ring ≡ false → (r : Report) → 
     → badRecord (withPlan (told ring r)) ≡ false
 unfolding servedReply servedAnswer
 next-good ring good r checked =
-    rw (step-serves ring good r checked sheetBuffer sheet-buffer) at (step-good ring good r sheetBuffer)
+    rw (step-serves ring good r checked sheetBuffer sheet-buffer) at (call-good ring good (step r sheetBuffer))

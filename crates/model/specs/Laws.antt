@@ -8,5 +8,7 @@ pub mod Reports
 pub mod Refusals
 pub mod Appended
 pub mod Answers
+pub mod Calls
 pub mod CutSets
 pub mod Spaced
+pub mod Scans

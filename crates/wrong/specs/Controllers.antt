@@ -4,13 +4,14 @@ use mathlib.Core.Path.{_≡_, refl}
 use mathlib.Core.Bool.{Bool, true, false, not, _&&_, cond}
 use mathlib.Core.List.{List, [], _∷_, _++_, map, flatMap, Permᴰ·refl}
 use mathlib.Core.Option.{none, some}
-use Prim.Native.Nat.{ℕ}
+use Prim.Native.Nat.{ℕ, _-_}
 use native.Mathlib.Omega.{arith}
 use lib.Dec.{eqb}
-use lib.ListN.{take, drop, set, replicate}
+use lib.ListN.{length, take, drop, set, replicate}
 use Rattle.model.specs.declared.Part.the-variants.{Generator, BusBreaker}
 use Rattle.model.specs.declared.Word.the-variants.{Fit, StuckOff}
 use Rattle.model.specs.declared.Report.{Report}
+use Rattle.model.specs.declared.Scan.{Scan}
 use Rattle.model.specs.declared.Ring.{Ring}
 use Rattle.model.specs.declared.Feed.the-variants as feed
 use Rattle.model.specs.Lists.{allOf, _∈_, below, keep, first, anyOf}
@@ -45,6 +46,7 @@ use Rattle.model.specs.Reports.{
   withPlan,
 }
 use Rattle.model.specs.Answers.{Reply, refusedReply, servedReply, startReply, allDark, refusedAnswer, servedAnswer, stepReply}
+use Rattle.model.specs.Scans.{scanReports, toldAll, firstRefusal, scanRefusal, scanReply}
 use Rattle.model.specs.Laws.Lists.{all-at}
 use Rattle.model.specs.Laws.Refusals.{served-refused}
 use Rattle.demands.specs.Statements.Demand3.{
@@ -52,7 +54,9 @@ use Rattle.demands.specs.Statements.Demand3.{
   PlantState,
   operation,
   decode,
+  Call,
   step,
+  scan,
   Calls,
   nothing,
   _then_,
@@ -76,7 +80,8 @@ use Rattle.demands.specs.Statements.Demand3.{
   phasesAt,
   wordRefusal,
 }
-use Rattle.demands.specs.Theorems.Demand3.{controller, demand3}
+use Rattle.demands.specs.Controller.{controller}
+use Rattle.demands.specs.Theorems.Demand3.{demand3}
 use Rattle.demands.specs.Statements.Demand2.{Demand2, earlier}
 use Rattle.demands.specs.Theorems.Demand2.{demand2}
 use Rattle.demands.specs.Refuting.Claims as claim
@@ -135,7 +140,7 @@ use Rattle.demands.specs.Refuting.Claims.{
   atStart,
   atEnd,
 }
-use Rattle.demands.specs.Proofs.Answering.{fullRoom}
+use Rattle.demands.specs.Proofs.Answering.{fullRoom, callNumber}
 use Rattle.demands.specs.Refuting.Facts.{report, generator1Off, breaker1Closed, breaker2Open, breaker2Fit}
 use Rattle.demands.specs.Refuting.Runs.{run-ended, ordered, bothPhases, worldAfter, afterCall, run}
 use Rattle.demands.specs.Refuting.Refuted.{refutes3, refutes2}
@@ -145,6 +150,7 @@ use Rattle.wrong.specs.Designs.{
   right-is,
   startSpoilt,
   stepSpoilt,
+  scanSpoilt,
   whenRefused,
   whenServed,
   withRing,
@@ -168,6 +174,7 @@ use Rattle.wrong.specs.Designs.{
   designBad,
   designStart,
   designStep,
+  designScan,
   chosenBy,
   trying,
   planningFor,
@@ -187,8 +194,10 @@ use Rattle.model.specs.Refusals.{
   activeAbove,
   unplanned,
   badRecord,
+  countAbove,
   nextSheet,
   reportConditions,
+  sheetRefusal,
   startRefusal,
   stepRefusal,
 }
@@ -231,6 +240,22 @@ handed rs r buffer = record { size = 3; lending = fullRoom; calls = callsOf rs; 
 -- .. with room for every sheet
 abbrev pub after : List Report → Report → Instance
 after rs r = handed rs r fullRoom
+
+-- a scan of some reports: in the places past its count stand reports that would be refused
+unfoldable pub scanOf : List Report → Scan
+scanOf rs = record { reports = rs ++ replicate (64 - length rs) generator4Off; count = length rs }
+
+-- .. that is said to have k
+unfoldable pub countedAs : ℕ → Scan → Scan
+countedAs k s = record { reports = s .reports; count = k }
+
+-- a ring of three that was handed some calls, and then a call
+unfoldable pub calling : Calls → Call → Instance
+calling cs c = record { size = 3; lending = fullRoom; calls = cs; call = c; backward = false; done = 0 }
+
+-- a started ring of three, and then a scan, with room for every sheet
+unfoldable pub scanning : Scan → Instance
+scanning s = calling nothing (scan s fullRoom)
 
 -- interrupted after k operations of a phase
 unfoldable pub halted : ℕ → Instance → Instance
@@ -333,6 +358,74 @@ servesStarts = startSpoilt (λ n buffer reply. servedReply (blankRing n) buffer)
 unfoldable pub servesReports : Controller
 servesReports = stepSpoilt (λ ring r buffer reply. servedReply (told ring r) buffer)
 
+-- served scans and refused ones, altered
+unfoldable pub scanRefusing : (Reply → Reply) → Controller
+scanRefusing f = scanSpoilt (λ ring s buffer reply. whenRefused f reply)
+
+unfoldable pub scanServing : (Reply → Reply) → Controller
+scanServing f = scanSpoilt (λ ring s buffer reply. whenServed f reply)
+
+unfoldable pub scanWrites : ℕ → ℕ → List (ℕ × ℕ) → Controller
+scanWrites k l os = scanServing (withBuffer (sheetWith k l os))
+
+-- serves every scan with reports of its own choice
+unfoldable pub scanTelling : (Scan → List Report) → Controller
+scanTelling f = scanSpoilt (λ ring s buffer reply. servedReply (toldAll ring (f s)) buffer)
+
+-- .. where the scan is to be served
+unfoldable pub scanServingBy : (Scan → List Report) → Controller
+scanServingBy f = scanSpoilt (λ ring s buffer reply. whenServed (λ right. servedReply (toldAll ring (f s)) buffer) reply)
+
+-- the last report of some
+unfoldable pub lastOf : List Report → List Report
+lastOf [] = []
+lastOf (r ∷ []) = r ∷ []
+lastOf (r ∷ q ∷ rs) = lastOf (q ∷ rs)
+
+-- the reports the other way round
+unfoldable pub backwards : List Report → List Report
+backwards [] = []
+backwards (r ∷ rs) = backwards rs ++ (r ∷ [])
+
+-- the ring after single steps, all but the last of some reports
+unfoldable pub beforeLast : Ring → List Report → Ring
+beforeLast ring [] = ring
+beforeLast ring (r ∷ []) = ring
+beforeLast ring (r ∷ q ∷ rs) = beforeLast (withPlan (told ring r)) (q ∷ rs)
+
+-- takes only the last word of a scan
+unfoldable pub takesLastWord : Controller
+takesLastWord = scanServingBy (λ s. lastOf (scanReports s))
+
+-- sends the sheet of the last single step
+unfoldable pub sendsLastSheet : Controller
+sendsLastSheet =
+    scanSpoilt (λ ring s buffer reply.
+    let rs = scanReports s in whenServed (λ right. servedReply (toldAll (beforeLast ring rs) (lastOf rs)) buffer) reply)
+
+-- takes the words of a scan in another order; reads places past the count
+unfoldable pub takesWordsBackwards : Controller
+takesWordsBackwards = scanServingBy (λ s. backwards (scanReports s))
+
+unfoldable pub readsPastCount : Controller
+readsPastCount = scanServingBy (λ s. take 3 (s .reports))
+
+-- serves every scan; refuses one of 64 reports; refuses by the last bad report; asks 8 of the first step
+unfoldable pub servesScans : Controller
+servesScans = scanTelling scanReports
+
+unfoldable pub refuses64 : Controller
+refuses64 = scanSpoilt (λ ring s buffer reply. cond (eqb (s .count) 64) (refusedReply 11 ring buffer) reply)
+
+unfoldable pub refusesByLast : Controller
+refusesByLast =
+    scanSpoilt (λ ring s buffer reply. whenRefused (λ right. refusedReply (firstRefusal (ring .n) (lastOf (scanReports s))) ring buffer) reply)
+
+unfoldable pub asksFirstStep : Controller
+asksFirstStep =
+    scanSpoilt (λ ring s buffer reply.
+    cond (tooShort (length buffer) (nextSheet (toldAll ring (take 1 (scanReports s))))) (refusedReply 8 ring buffer) reply)
+
 -- shows the choices of a ring of three without faults, or none
 unfoldable pub fitChoices : Reply → Reply
 fitChoices reply = withChoices (choices 3 allFit) reply
@@ -434,8 +527,56 @@ wrongMoments =
     ∷ row (stepWrites 1 2 ((65, 0) ∷ (66, 0) ∷ (66, 1) ∷ [])) claim.standing (reversed (after [] breaker2Open))
     ∷ []
 
+-- BB2 stuck open and BB1 stuck closed in one scan; BB2 stuck open and fit again
+abbrev twoFaults : Scan
+twoFaults = scanOf (breaker2Open ∷ breaker1Closed ∷ [])
+
+abbrev returned : Scan
+returned = scanOf (breaker2Open ∷ breaker2Fit ∷ [])
+
+-- scans that are refused in vain, or not refused, or by another number; what a refused scan alters, and a served one behind its sheet
+unfoldable pub wrongScanRefusals : List Row3
+wrongScanRefusals =
+    row servesScans claim.always (scanning (countedAs 65 (scanOf [])))
+    ∷ row servesScans claim.always (scanning (scanOf (breaker2Open ∷ generator4Off ∷ [])))
+    ∷ row servesScans claim.always (scanning (scanOf (breaker2Open ∷ breaker1Off ∷ breaker2Fit ∷ [])))
+    ∷ row servesScans claim.always (calling nothing (scan (scanOf (breaker2Open ∷ [])) (replicate 5 0)))
+    ∷ row servesScans claim.always (calling nothing (scan (scanOf []) (replicate 1 0)))
+    ∷ row (scanTelling (λ s. take 1 (s .reports))) claim.always (scanning (scanOf (breaker2Open ∷ generator4Off ∷ [])))
+    ∷ row refuses64 claim.only (scanning (scanOf (replicate 64 breaker2Open)))
+    ∷ row refusesByLast claim.always (scanning (scanOf (breaker1Off ∷ generator4Off ∷ [])))
+    ∷ row refusesByLast claim.only (scanning (scanOf (breaker1Off ∷ generator4Off ∷ [])))
+    ∷ row asksFirstStep claim.only (calling nothing (scan returned (replicate 2 0)))
+    ∷ row (scanRefusing (withRing idleRing)) claim.record-kept (scanning (scanOf (generator4Off ∷ [])))
+    ∷ row (scanRefusing (withBuffer firstByte)) claim.buffer-kept (scanning (scanOf (generator4Off ∷ [])))
+    ∷ row (scanRefusing fitChoices) claim.choices-dark (scanning (scanOf (generator4Off ∷ [])))
+    ∷ row (scanServing (withBuffer lastByte)) claim.behind-kept (scanning twoFaults)
+    ∷ row (scanServing (withBuffer oneMore)) claim.length-kept (scanning twoFaults)
+    ∷ []
+
+-- served scans: their words, their sheets, what stands after them, interruptions; before and after them steps and scans
+unfoldable pub wrongScans : List Row3
+wrongScans =
+    row takesLastWord claim.choices-are (scanning (scanOf (generator1Off ∷ breaker2Open ∷ [])))
+    ∷ row takesLastWord claim.health (scanning twoFaults)
+    ∷ row takesLastWord claim.health (calling (nothing then step generator1Off fullRoom then scan twoFaults fullRoom) (step breaker2Fit (replicate 0 0)))
+    ∷ row sendsLastSheet claim.second-is (scanning twoFaults)
+    ∷ row sendsLastSheet claim.standing (scanning twoFaults)
+    ∷ row sendsLastSheet claim.standing (calling (nothing then step generator1Off fullRoom then scan twoFaults fullRoom) (scan (scanOf []) fullRoom))
+    ∷ row takesWordsBackwards claim.health (scanning returned)
+    ∷ row readsPastCount claim.health (scanning (countedAs 1 (scanOf (breaker2Open ∷ breaker1Closed ∷ breaker1Closed ∷ []))))
+    ∷ row (designController emptyPhases) claim.energized (scanning (scanOf (generator1Off ∷ breaker2Open ∷ [])))
+    ∷ row (designController onePlan) claim.choices-are (scanning (scanOf (breaker2Open ∷ breaker2Open ∷ [])))
+    ∷ row (designController oneWave) claim.clash-in-first (halted 1 (calling (nothing then scan (scanOf (breaker2Open ∷ [])) fullRoom) (scan (scanOf (breaker2Fit ∷ breaker2Fit ∷ [])) fullRoom)))
+    ∷ row (scanServing noChoices) claim.dark-exactly (scanning twoFaults)
+    ∷ row (scanServing (withRing idleRing)) claim.only (calling (nothing then scan twoFaults fullRoom) (step breaker2Fit fullRoom))
+    ∷ row (scanWrites 3 1 ((65, 0) ∷ (64, 1) ∷ (64, 0) ∷ (66, 1) ∷ [])) claim.clash-in-first (halted 2 (scanning (scanOf (breaker2Open ∷ []))))
+    ∷ row (scanWrites 1 3 ((65, 0) ∷ (66, 1) ∷ (64, 1) ∷ (64, 0) ∷ [])) claim.clash-in-second (halted 2 (scanning (scanOf (breaker2Open ∷ []))))
+    ∷ row (scanWrites 0 1 ((99, 1) ∷ [])) claim.ends-after (scanning twoFaults)
+    ∷ []
+
 unfoldable pub wrongs3 : List Row3
-wrongs3 = wrongDesigns ++ (wrongStarts ++ (wrongRefusals ++ (wrongSteps ++ wrongMoments)))
+wrongs3 = wrongDesigns ++ (wrongStarts ++ (wrongRefusals ++ (wrongSteps ++ (wrongMoments ++ (wrongScanRefusals ++ wrongScans)))))
 
 -- the wrong controller fails the claim
 unfoldable pub refuted3 : Row3 → Bool
@@ -498,6 +639,10 @@ record Computed : Type 0 where
   exception-needed : (P : PlantState)
       × Interrupted controller 3 fullRoom (nothing then step breaker1Closed fullRoom) P true
       × (busFeed 3 (P .health) (P .last) 0 ≡ feed.Clash 1 2)
+  -- .. and so it is in a scan
+  exception-needed-in-scan : (P : PlantState)
+      × Interrupted controller 3 fullRoom (nothing then scan twoFaults fullRoom) P true
+      × (busFeed 3 (P .health) (P .last) 0 ≡ feed.Clash 1 2)
 
 -- by one evaluation
 computed : Computed
@@ -517,7 +662,10 @@ unfolding below keep first anyOf allOf partCode samePart parts healthOfKind next
     withChoices withBuffer fullRoom callsOf starting handed halted reversed sheetWith startRefusing startServing stepRefusing stepServing
     startWrites stepWrites refusesTwenty refusesStarts refusesReports servesStarts servesReports fitChoices noChoices wrongDesigns
     wrongStarts wrongRefusals wrongSteps wrongMoments wrongs3 refuted3 flatMap fails2 extraOpen extraClose hasOperation otherOutcome rises
-    wrongs2 refuted2 clashesNowhere
+    wrongs2 refuted2 clashesNowhere countAbove sheetRefusal toldAll firstRefusal scanRefusal scanReply callNumber designScan scanSpoilt
+    scanOf countedAs calling scanning scanRefusing scanServing scanWrites scanTelling scanServingBy lastOf backwards beforeLast
+    takesLastWord sendsLastSheet takesWordsBackwards readsPastCount servesScans refuses64 refusesByLast asksFirstStep wrongScanRefusals
+    wrongScans
 computed = record {
   refuted-3 = refl;
   refuted-2 = refl;
@@ -525,6 +673,12 @@ computed = record {
   exception-needed = (
     _,
     in-call (step breaker1Closed fullRoom) whole (run-ended controller false 3 fullRoom nothing _ refl) refl refl
+        (in-first [] (Permᴰ·refl _)),
+    refl,
+  );
+  exception-needed-in-scan = (
+    _,
+    in-call (scan twoFaults fullRoom) whole (run-ended controller false 3 fullRoom nothing _ refl) refl refl
         (in-first [] (Permᴰ·refl _)),
     refl,
   );

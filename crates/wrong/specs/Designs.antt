@@ -11,6 +11,7 @@ use Rattle.model.specs.declared.Part.{Part}
 use Rattle.model.specs.declared.Part.the-variants.{Generator}
 use Rattle.model.specs.declared.Word.the-variants.{StuckOff}
 use Rattle.model.specs.declared.Report.{Report}
+use Rattle.model.specs.declared.Scan.{Scan}
 use Rattle.model.specs.declared.Ring.{Ring}
 use Rattle.model.specs.declared.Outcome.the-variants as outcome
 use Rattle.model.specs.declared.Choice.the-variants as choice
@@ -24,20 +25,24 @@ use Rattle.model.specs.Sheet.{opening, closing, sheetOf, sheet, written}
 use Rattle.model.specs.Reports.{reported, allFit, places, healthOf, commandsOf, commandPlaces, blankRing, told, planned, withPlan}
 use Rattle.model.specs.Refusals.{
   firstMet,
+  orElse,
   sizeOutside,
   healthOutside,
   activeAbove,
   unplanned,
   badRecord,
+  countAbove,
   tooShort,
   nextSheet,
   reportConditions,
+  sheetRefusal,
   startRefusal,
   stepRefusal,
 }
 use Rattle.model.specs.Answers.{Reply, refusedReply, servedAnswer, servedReply, startReply, stepReply}
+use Rattle.model.specs.Scans.{scanReports, toldAll, firstRefusal, scanRefusal, scanReply}
 use Rattle.demands.specs.Statements.Demand3.{Controller, isServed}
-use Rattle.demands.specs.Theorems.Demand3.{controller}
+use Rattle.demands.specs.Controller.{controller}
 use Rattle.demands.specs.Statements.Demand2.{earlier}
 use Rattle.demands.specs.Theorems.Demand2.{earlier-chosen}
 
@@ -98,8 +103,16 @@ module _ (d : Design) where
       let k = firstMet ((9, designBad ring) ∷ (reportConditions (ring .n) r ++ ((8, short) ∷ []))) in
       cond (eqb k 0) (designServed (told ring r) buffer) (refusedReply k ring buffer)
 
+  unfoldable pub designScan : Ring → Scan → List ℕ → Reply
+  designScan ring s buffer =
+      let all-told = toldAll ring (scanReports s) in
+      let reports = firstRefusal (ring .n) (scanReports s) in
+      let own = sheetRefusal (length buffer) (designSheet all-told) in
+      let k = orElse (firstMet ((9, designBad ring) ∷ (11, countAbove (s .count)) ∷ [])) (orElse reports own) in
+      cond (eqb k 0) (designServed all-told buffer) (refusedReply k ring buffer)
+
   unfoldable pub designController : Controller
-  designController = record { start = designStart; step = designStep }
+  designController = record { start = designStart; step = designStep; scan = designScan }
 
 -- the design of document 01
 unfoldable pub right : Design
@@ -129,10 +142,19 @@ right-step : (ring : Ring) (r : Report) (buffer : List ℕ) → designStep right
 unfolding designStep stepReply stepRefusal
 right-step ring r buffer = rw (right-bad ring, right-sheet (told ring r), right-served (told ring r) buffer)
 
+right-scan : (ring : Ring) (s : Scan) (buffer : List ℕ) → designScan right ring s buffer ≡ scanReply ring s buffer
+unfolding designScan scanReply scanRefusal
+right-scan ring s buffer =
+    rw (right-bad ring, right-sheet (toldAll ring (scanReports s)), right-served (toldAll ring (scanReports s)) buffer)
+
 -- the right design is the controller
 pub right-is : designController right ≡ controller
 unfolding designController
-right-is = λ i. record { start = λ n buffer. right-start n buffer i; step = λ ring r buffer. right-step ring r buffer i }
+right-is = λ i. record {
+  start = λ n buffer. right-start n buffer i;
+  step = λ ring r buffer. right-step ring r buffer i;
+  scan = λ ring s buffer. right-scan ring s buffer i;
+}
 
 -- ---- the designs that document 01 holds against the contracts
 
@@ -211,13 +233,18 @@ breakerBehind = record {
 unfoldable pub highFirst : Design
 highFirst = trying (λ n b. map (λ g. highPath n b g) (sources n b) ++ map (λ g. lowPath n b g) (sources n b))
 
--- ---- the controller, spoilt in its replies to starts or to steps
+-- ---- the controller, spoilt in its replies to starts, to steps or to scans
 
 unfoldable pub startSpoilt : (ℕ → List ℕ → Reply → Reply) → Controller
-startSpoilt f = record { start = λ n buffer. f n buffer (startReply n buffer); step = stepReply }
+startSpoilt f = record { start = λ n buffer. f n buffer (startReply n buffer); step = stepReply; scan = scanReply }
 
 unfoldable pub stepSpoilt : (Ring → Report → List ℕ → Reply → Reply) → Controller
-stepSpoilt f = record { start = startReply; step = λ ring r buffer. f ring r buffer (stepReply ring r buffer) }
+stepSpoilt f =
+    record { start = startReply; step = λ ring r buffer. f ring r buffer (stepReply ring r buffer); scan = scanReply }
+
+unfoldable pub scanSpoilt : (Ring → Scan → List ℕ → Reply → Reply) → Controller
+scanSpoilt f =
+    record { start = startReply; step = stepReply; scan = λ ring s buffer. f ring s buffer (scanReply ring s buffer) }
 
 -- a refused reply, or a served one, altered
 unfoldable pub whenRefused : (Reply → Reply) → Reply → Reply

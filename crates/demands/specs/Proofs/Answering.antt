@@ -1,15 +1,15 @@
--- Each call is served or refused as it must be: which refusal meets a start or a step, and what is claimed of the reply that has its
--- number.
+-- Each call is served or refused as it must be: which refusal meets a start, a step or a scan, and what is claimed of the reply that has
+-- its number.
 use mathlib.Core.Path.{_≡_, refl, sym, _∙_, ap}
 use mathlib.Core.Bool.{true, false, cond}
 use mathlib.Core.Logic.{_≢_, _⊎_, inl, inr}
-use mathlib.Core.List.{List}
+use mathlib.Core.List.{List, [], _∷_}
 use Prim.Native.Nat.{ℕ, zero, suc, _≤_, _<_, min}
 use native.Mathlib.Omega.{arith}
 use lib.Dec.{ltb, eqb}
 use lib.ListN.{length, drop, replicate, length-append, length-drop, length-replicate}
 use lib.Seq.{drop-at}
-use borrow.Author.Tests.{ltb-true, ltb-false, ne-eqb}
+use borrow.Author.Tests.{ltb-true, ltb-false, lt-ltb, le-ltb, ne-eqb}
 use Rattle.model.specs.declared.Part.{Part}
 use Rattle.model.specs.declared.Part.the-variants.{Generator, GeneratorBreaker, BusBreaker}
 use Rattle.model.specs.declared.Word.{Word}
@@ -24,19 +24,25 @@ use Rattle.model.specs.Sheet.{opening, closing, sheetOf, sheet, written}
 use Rattle.model.specs.Reports.{reported, allFit, healthOf, commandsOf, blankRing, told, planned}
 use Rattle.model.specs.Refusals.{
   firstMet,
+  orElse,
   sizeOutside,
   notOfRing,
   wordOfOtherKind,
   generatorFitAgain,
   tooShort,
+  badRecord,
+  countAbove,
   nextSheet,
   reportConditions,
+  sheetRefusal,
   startRefusal,
   stepRefusal,
 }
 use Rattle.model.specs.Answers.{Reply, refusedAnswer, refusedReply, servedAnswer, servedReply, replyBy, startReply, stepReply}
-use Rattle.model.specs.Laws.Tests.{contra, dec, dec-eq, or-cases, or-none}
+use Rattle.model.specs.Scans.{toldAll, firstRefusal, scanRefusal, scanReply}
+use Rattle.model.specs.Laws.Tests.{contra, dec, dec-eq, dec-lt, or-cases, or-none}
 use Rattle.model.specs.Laws.Refusals.{size-bounds, refused-number}
+use Rattle.model.specs.Laws.Calls.{or-nothing, step-refusal, scan-refusal}
 use Rattle.model.specs.Laws.Parts.{health-places, command-places}
 use Rattle.model.specs.Laws.Sheet.{sheetOf-length}
 use Rattle.demands.specs.Statements.Demand3.{
@@ -44,7 +50,14 @@ use Rattle.demands.specs.Statements.Demand3.{
   freshPlant,
   effect,
   afterWord,
+  afterWords,
+  Call,
   step,
+  scan,
+  replyTo,
+  words,
+  count,
+  lent,
   isServed,
   sheetLength,
   World,
@@ -54,12 +67,23 @@ use Rattle.demands.specs.Statements.Demand3.{
   too-small,
   too-large,
   too-short,
-  Meets,
+  Bad,
   no-part,
   no-word,
+  Good,
+  FirstBad,
+  here,
+  later,
+  AllGood,
+  no-reports,
+  good-and,
+  Meets,
+  too-many,
+  bad-report,
   no-room,
   Answered,
 }
+use Rattle.demands.specs.Controller.{controller}
 use Rattle.demands.specs.Proofs.Steady.{Ready, Steady, sheet-is, steady-good}
 
 -- ---- the reply that has a number
@@ -81,7 +105,7 @@ judged-fine (fine none f) z = f
 -- a call that no refusal meets has the number 0
 judged-zero : {Met : ℕ → Type 0} {Fine : Type 0} {k : ℕ} → Judged Met Fine k → ((j : ℕ) → Met j → ⊥) → k ≡ 0
 judged-zero (met k l m only) none = absurd (none k m)
-judged-zero (fine none f) also = refl
+judged-zero (fine none f) free = refl
 
 -- condition 8, met and not
 short-lt : (room : ℕ) (bytes : List ℕ) → tooShort room bytes ≡ true → room < length bytes
@@ -280,16 +304,27 @@ same-effect StuckOff = refl
 same-effect StuckOpen = refl
 same-effect StuckClosed = refl
 
--- the ring and the plant, ready for the phases of a step
-pub step-ready : {n : ℕ} {W : World} → n ≤ largest → Steady n W → (r : Report) → Ready n (told (W .ring) r) (afterWord r (W .plant))
+-- the ring and the plant, ready for the phases of a call: a report more
+told-ready : {n : ℕ} {ring : Ring} {P : PlantState} → n ≤ largest → Ready n ring P → (r : Report) → Ready n (told ring r) (afterWord r P)
 unfolding told reported afterWord
-step-ready {W = W} small s r = record {
-  size = s .size;
+told-ready {ring = ring} small ready r = record {
+  size = ready .size;
   health =
-      λ p i. health-places (reported (healthOf (W .ring .health)) r) p (i .0, omega (arith, i .1)) ∙ rw
-      (same-effect (r .word), s .health p i);
-  standing = s .standing;
+      λ p i. health-places (reported (healthOf (ring .health)) r) p (i .0, omega (arith, i .1)) ∙ rw
+      (same-effect (r .word), ready .health p i);
+  standing = ready .standing;
 }
+
+all-ready : {n : ℕ} {ring : Ring} {P : PlantState} → n ≤ largest → Ready n ring P → (rs : List Report)
+    → Ready n (toldAll ring rs) (afterWords rs P)
+unfolding toldAll afterWords
+all-ready small ready [] = ready
+all-ready small ready (r ∷ rs) = all-ready small (told-ready small ready r) rs
+
+-- .. all of its reports
+pub call-ready : {n : ℕ} {W : World} → n ≤ largest → Steady n W → (call : Call)
+    → Ready n (toldAll (W .ring) (words call)) (afterWords (words call) (W .plant))
+call-ready small s call = all-ready small (record { size = s .size; health = s .health; standing = s .standing }) (words call)
 
 in-ring : (n : ℕ) (p : Part) → notOfRing n p ≡ false → InRing n p
 unfolding notOfRing
@@ -323,93 +358,188 @@ word-refusal (BusBreaker k) StuckOff x = refl
 word-refusal (BusBreaker k) StuckOpen x = refl
 word-refusal (BusBreaker k) StuckClosed x = refl
 
--- a step that nothing meets
-pub record StepFine (n : ℕ) (P : PlantState) (r : Report) (room : ℕ) : Type 0 where
-  pub inside : InRing n (r .part)
-  pub word : wordRefusal (r .part) (r .word) ≡ 0
-  pub fits : sheetFor n (afterWord r P) ≤ room
+-- ---- the reports of a call
 
-none-step : {n : ℕ} {P : PlantState} {r : Report} {buffer : List ℕ} → StepFine n P r (length buffer) → (j : ℕ) → Meets n P (step r buffer) j
-    → ⊥
-none-step f j (no-part g) = g (f .inside)
-none-step f j (no-word i e) = omega (arith, f .word)
-none-step f j (no-room i e l) = omega (arith, f .fits)
+none-bad : {n : ℕ} {r : Report} → Good n r → (j : ℕ) → Bad n r j → ⊥
+none-bad g j (no-part out) = out (g .inside)
+none-bad g j (no-word i e) = omega (arith, g .word)
 
-pub judge-step : (m n : ℕ) → m ≡ n → (P : PlantState) (r : Report) (buffer bytes : List ℕ) → n ≤ largest
-    → length bytes ≡ sheetFor n (afterWord r P)
-    → let w = wordRefusal (r .part) (r .word) in
-    Judged (Meets n P (step r buffer)) (StepFine n P r (length buffer))
-    (cond (notOfRing m (r .part)) 5 (cond (eqb w 0) (cond (tooShort (length buffer) bytes) 8 0) w))
-judge-step m n same P r buffer bytes small is =
-    rw same (go (dec (notOfRing n (r .part))) (wordRefusal (r .part) (r .word)) refl (dec (tooShort (length buffer) bytes)))
+judge-report : (n : ℕ) (r : Report) → n ≤ largest → Judged (Bad n r) (Good n r) (firstMet (reportConditions n r))
+unfolding firstMet reportConditions
+judge-report n r small =
+    rw (word-refusal (r .part) (r .word) 0) (go (dec (notOfRing n (r .part))) (wordRefusal (r .part) (r .word)) refl)
   where
-    only-part : (InRing n (r .part) → ⊥) → (j : ℕ) → Meets n P (step r buffer) j → j ≡ 5
+    only-part : (InRing n (r .part) → ⊥) → (j : ℕ) → Bad n r j → j ≡ 5
     only-part f j (no-part g) = refl
     only-part f j (no-word i e) = absurd (f i)
-    only-part f j (no-room i e l) = absurd (f i)
 
-    only-word : {k : ℕ} → InRing n (r .part) → wordRefusal (r .part) (r .word) ≡ suc k → (j : ℕ) → Meets n P (step r buffer) j → j ≡ suc k
+    only-word : {k : ℕ} → InRing n (r .part) → wordRefusal (r .part) (r .word) ≡ suc k → (j : ℕ) → Bad n r j → j ≡ suc k
     only-word i e j (no-part f) = absurd (f i)
     only-word i e j (no-word i₁ e₁) = sym e₁ ∙ e
-    only-word i e j (no-room i₁ e₁ l) = absurd (omega arith)
-
-    only-room : InRing n (r .part) → wordRefusal (r .part) (r .word) ≡ 0 → (j : ℕ) → Meets n P (step r buffer) j → j ≡ 8
-    only-room i e j (no-part f) = absurd (f i)
-    only-room i e j (no-word i₁ e₁) = absurd (omega arith)
-    only-room i e j (no-room i₁ e₁ l) = refl
 
     go : (notOfRing n (r .part) ≡ true) ⊎ (notOfRing n (r .part) ≡ false) → (k : ℕ) → wordRefusal (r .part) (r .word) ≡ k
-        → (tooShort (length buffer) bytes ≡ true) ⊎ (tooShort (length buffer) bytes ≡ false)
         → let w = wordRefusal (r .part) (r .word) in
-        Judged (Meets n P (step r buffer)) (StepFine n P r (length buffer))
-        (cond (notOfRing n (r .part)) 5 (cond (eqb w 0) (cond (tooShort (length buffer) bytes) 8 0) w))
-    go (inl p) k e t = let out = not-in-ring n (r .part) small p in rw p (met 5 (omega arith) (no-part out) (only-part out))
-    go (inr p) (suc k) e t =
+        Judged (Bad n r) (Good n r) (cond (notOfRing n (r .part)) 5 (cond (eqb w 0) 0 w))
+    go (inl p) k e = let out = not-in-ring n (r .part) small p in rw p (met 5 (omega arith) (no-part out) (only-part out))
+    go (inr p) (suc k) e =
         let i = in-ring n (r .part) p in
         rw (p, e, ne-eqb (suc k) 0 (λ z. omega arith)) (met (suc k) (omega arith) (no-word i e) (only-word i e))
-    go (inr p) zero e (inl t) =
-        let i = in-ring n (r .part) p in
-        let l : length buffer < sheetFor n (afterWord r P) = rw is at (short-lt (length buffer) bytes t) in
-        rw (p, e, t) (met 8 (omega arith) (no-room i e l) (only-room i e))
-    go (inr p) zero e (inr t) =
-        let l : sheetFor n (afterWord r P) ≤ length buffer = rw is at (short-le (length buffer) bytes t) in
-        let f : StepFine n P r (length buffer) = record { inside = in-ring n (r .part) p; word = e; fits = l } in
-        rw (p, e, t) (fine (none-step f) f)
+    go (inr p) zero e =
+        let g : Good n r = record { inside = in-ring n (r .part) p; word = e } in
+        rw (p, e) (fine (none-bad g) g)
 
-module _ {n : ℕ} {W : World} (big : smallest ≤ n) (small : n ≤ largest) (s : Steady n W) (r : Report) (buffer : List ℕ) where
-  abbrev k : ℕ
-  k = stepRefusal (W .ring) r (length buffer)
+-- among good reports none is the first bad one
+none-first : {n : ℕ} {rs : List Report} → AllGood n rs → (j : ℕ) → FirstBad n rs j → ⊥
+none-first (good-and g a) j (here b) = none-bad g j b
+none-first (good-and g a) j (later h f) = none-first a j f
 
-  sheet-for : length (nextSheet (told (W .ring) r)) ≡ sheetFor n (afterWord r (W .plant))
-  sheet-for = ap length (sheet-is small (step-ready small s r))
+judge-reports : (n : ℕ) (rs : List Report) → n ≤ largest → Judged (FirstBad n rs) (AllGood n rs) (firstRefusal n rs)
+unfolding firstRefusal
+judge-reports n [] small = fine (none-first no-reports) no-reports
+judge-reports n (r ∷ rs) small = go (judge-report n r small) (judge-reports n rs small)
+  where
+    only-here : {k : ℕ} → Bad n r k → ((j : ℕ) → Bad n r j → j ≡ k) → (j : ℕ) → FirstBad n (r ∷ rs) j → j ≡ k
+    only-here b one j (here c) = one j c
+    only-here b one j (later g f) = absurd (none-bad g _ b)
 
-  pub judged-step : Judged (Meets n (W .plant) (step r buffer)) (StepFine n (W .plant) r (length buffer)) k
-  unfolding stepRefusal firstMet reportConditions
-  judged-step =
-      let short = tooShort (length buffer) (nextSheet (told (W .ring) r)) in
-      rw (steady-good s big small, word-refusal (r .part) (r .word) (cond short 8 0))
-      (judge-step (W .ring .n) n (s .size) (W .plant) r buffer (nextSheet (told (W .ring) r)) small sheet-for)
+    only-later : {k : ℕ} → Good n r → ((j : ℕ) → FirstBad n rs j → j ≡ k) → (j : ℕ) → FirstBad n (r ∷ rs) j → j ≡ k
+    only-later g one j (here b) = absurd (none-bad g j b)
+    only-later g one j (later h f) = one j f
 
-  -- the whole of what is claimed of a step
-  pub step-answered : Answered (Meets n (W .plant) (step r buffer)) (W .ring) buffer (stepReply (W .ring) r buffer)
-  unfolding stepReply
-  step-answered = answered-by k (told (W .ring) r) (W .ring) buffer judged-step (λ f. omega (arith, f .fits, sheet-for))
+    go : {k l : ℕ} → Judged (Bad n r) (Good n r) k → Judged (FirstBad n rs) (AllGood n rs) l
+        → Judged (FirstBad n (r ∷ rs)) (AllGood n (r ∷ rs)) (orElse k l)
+    go (met k h b one) rest = rw (ne-eqb k 0 (λ z. omega arith)) (met k h (here b) (only-here b one))
+    go (fine none g) (met l h f one) = met l h (later g f) (only-later g one)
+    go (fine none g) (fine free a) = fine (none-first (good-and g a)) (good-and g a)
 
-  -- a fine step is served, a served one fine
-  pub fine-served : StepFine n (W .plant) r (length buffer) → isServed (stepReply (W .ring) r buffer) ≡ true
-  unfolding stepReply
-  fine-served f = zero-served k (told (W .ring) r) (W .ring) buffer (judged-zero judged-step (none-step f))
+-- ---- a call
 
-  pub served-fine : isServed (stepReply (W .ring) r buffer) ≡ true → StepFine n (W .plant) r (length buffer)
-  unfolding stepReply
-  served-fine e = judged-fine judged-step (served-zero k (told (W .ring) r) (W .ring) buffer e)
+-- a call that nothing meets
+pub record CallFine (n : ℕ) (P : PlantState) (call : Call) : Type 0 where
+  pub few : count call ≤ 64
+  pub good : AllGood n (words call)
+  pub fits : sheetFor n (afterWords (words call) P) ≤ length (lent call)
 
-module _ (ring : Ring) (r : Report) (buffer : List ℕ) where
-  pub step-served : isServed (stepReply ring r buffer) ≡ true → stepReply ring r buffer ≡ servedReply (told ring r) buffer
-  unfolding stepReply
-  step-served e = served-is (stepRefusal ring r (length buffer)) (told ring r) ring buffer e
+none-call : {n : ℕ} {P : PlantState} {call : Call} → CallFine n P call → (j : ℕ) → Meets n P call j → ⊥
+none-call f j (too-many l) = omega (arith, f .few)
+none-call f j (bad-report c b) = none-first (f .good) j b
+none-call f j (no-room c a l) = omega (arith, f .fits)
 
-  pub step-refused : isServed (stepReply ring r buffer) ≡ false
-      → stepReply ring r buffer ≡ refusedReply (stepRefusal ring r (length buffer)) ring buffer
-  unfolding stepReply
-  step-refused e = refused-is (stepRefusal ring r (length buffer)) (told ring r) ring buffer e
+-- the refusals of a call in their order but for 9: 11, then its reports' in a ring of n, then 8 for the bytes of its sheet
+unfoldable pub callNumber : ℕ → Call → List ℕ → ℕ
+callNumber n call bytes =
+    let reports = firstRefusal n (words call) in
+    let own = sheetRefusal (length (lent call)) bytes in
+    orElse (firstMet ((11, countAbove (count call)) ∷ [])) (orElse reports own)
+
+module _ (n : ℕ) (P : PlantState) (call : Call) (bytes : List ℕ) (small : n ≤ largest)
+    (is : length bytes ≡ sheetFor n (afterWords (words call) P)) where
+  only-many : 64 < count call → (j : ℕ) → Meets n P call j → j ≡ 11
+  only-many l j (too-many m) = refl
+  only-many l j (bad-report c b) = absurd (omega arith)
+  only-many l j (no-room c a s) = absurd (omega arith)
+
+  only-bad : {k : ℕ} → count call ≤ 64 → FirstBad n (words call) k → ((j : ℕ) → FirstBad n (words call) j → j ≡ k)
+      → (j : ℕ) → Meets n P call j → j ≡ k
+  only-bad c b one j (too-many m) = absurd (omega arith)
+  only-bad c b one j (bad-report d f) = one j f
+  only-bad c b one j (no-room d a s) = absurd (none-first a _ b)
+
+  only-room : count call ≤ 64 → AllGood n (words call) → (j : ℕ) → Meets n P call j → j ≡ 8
+  only-room c a j (too-many m) = absurd (omega arith)
+  only-room c a j (bad-report d f) = absurd (none-first a j f)
+  only-room c a j (no-room d b s) = refl
+
+  own-sheet : count call ≤ 64 → AllGood n (words call)
+      → Judged (Meets n P call) (CallFine n P call) (sheetRefusal (length (lent call)) bytes)
+  unfolding sheetRefusal firstMet
+  own-sheet c a = go (dec (tooShort (length (lent call)) bytes))
+    where
+      go : (tooShort (length (lent call)) bytes ≡ true) ⊎ (tooShort (length (lent call)) bytes ≡ false)
+          → Judged (Meets n P call) (CallFine n P call) (cond (tooShort (length (lent call)) bytes) 8 0)
+      go (inl t) =
+          let l : length (lent call) < sheetFor n (afterWords (words call) P) = rw is at (short-lt (length (lent call)) bytes t) in
+          rw t (met 8 (omega arith) (no-room c a l) (only-room c a))
+      go (inr t) =
+          let l : sheetFor n (afterWords (words call) P) ≤ length (lent call) = rw is at (short-le (length (lent call)) bytes t) in
+          let f : CallFine n P call = record { few = c; good = a; fits = l } in
+          rw t (fine (none-call f) f)
+
+  reports-then : count call ≤ 64 → {k : ℕ} → Judged (FirstBad n (words call)) (AllGood n (words call)) k
+      → Judged (Meets n P call) (CallFine n P call) (orElse k (sheetRefusal (length (lent call)) bytes))
+  reports-then c (met k h b one) = rw (ne-eqb k 0 (λ z. omega arith)) (met k h (bad-report c b) (only-bad c b one))
+  reports-then c (fine none a) = own-sheet c a
+
+  pub judge-call : Judged (Meets n P call) (CallFine n P call) (callNumber n call bytes)
+  unfolding callNumber firstMet countAbove
+  judge-call = go (dec-lt 64 (count call))
+    where
+      go : (64 < count call) ⊎ (count call ≤ 64)
+          → let reports = firstRefusal n (words call) in
+          let own = sheetRefusal (length (lent call)) bytes in
+          Judged (Meets n P call) (CallFine n P call) (orElse (cond (ltb 64 (count call)) 11 0) (orElse reports own))
+      go (inl l) = rw (lt-ltb 64 (count call) l) (met 11 (omega arith) (too-many l) (only-many l))
+      go (inr l) = rw (le-ltb 64 (count call) l) (reports-then l (judge-reports n (words call) small))
+
+-- the refusal of a call of the controller
+abbrev pub callRefusal : Ring → Call → ℕ
+callRefusal ring (step r buffer) = stepRefusal ring r (length buffer)
+callRefusal ring (scan s buffer) = scanRefusal ring s (length buffer)
+
+-- every call is answered by its refusal, and by the ring that was told its reports
+abbrev pub callReply : Ring → Call → Reply
+callReply ring call = replyBy (callRefusal ring call) (toldAll ring (words call)) ring (lent call)
+
+pub call-reply : (ring : Ring) (call : Call) → replyTo controller ring call ≡ callReply ring call
+unfolding stepReply scanReply toldAll
+call-reply ring (step r buffer) = refl
+call-reply ring (scan s buffer) = refl
+
+-- a good record: 9 does not meet the call
+call-number : (ring : Ring) (call : Call) → badRecord ring ≡ false
+    → callRefusal ring call ≡ callNumber (ring .n) call (nextSheet (toldAll ring (words call)))
+unfolding callNumber firstMet firstRefusal countAbove toldAll
+call-number ring (step r buffer) good = rw (or-nothing (firstMet (reportConditions (ring .n) r))) (step-refusal ring good r (length buffer))
+call-number ring (scan s buffer) good = scan-refusal ring good s (length buffer)
+
+module _ {n : ℕ} {W : World} (big : smallest ≤ n) (small : n ≤ largest) (s : Steady n W) (call : Call) where
+  abbrev told-ring : Ring
+  told-ring = toldAll (W .ring) (words call)
+
+  sheet-for : length (nextSheet told-ring) ≡ sheetFor n (afterWords (words call) (W .plant))
+  sheet-for = ap length (sheet-is small (call-ready small s call))
+
+  pub judged-call : Judged (Meets n (W .plant) call) (CallFine n (W .plant) call) (callRefusal (W .ring) call)
+  judged-call =
+      let size = ap (λ m. callNumber m call (nextSheet told-ring)) (s .size) in
+      rw (call-number (W .ring) call (steady-good s big small) ∙ size) (judge-call n (W .plant) call (nextSheet told-ring) small sheet-for)
+
+  -- the whole of what is claimed of a call
+  pub call-answered : Answered (Meets n (W .plant) call) (W .ring) (lent call) (replyTo controller (W .ring) call)
+  call-answered =
+      rw (call-reply (W .ring) call)
+      (answered-by (callRefusal (W .ring) call) told-ring (W .ring) (lent call) judged-call (λ f. omega (arith, f .fits, sheet-for)))
+
+  -- a fine call is served, a served one fine
+  pub fine-served : CallFine n (W .plant) call → isServed (replyTo controller (W .ring) call) ≡ true
+  fine-served f =
+      rw (call-reply (W .ring) call)
+      (zero-served (callRefusal (W .ring) call) told-ring (W .ring) (lent call) (judged-zero judged-call (none-call f)))
+
+  pub served-fine : isServed (replyTo controller (W .ring) call) ≡ true → CallFine n (W .plant) call
+  served-fine e =
+      judged-fine judged-call
+      (served-zero (callRefusal (W .ring) call) told-ring (W .ring) (lent call) (rw (call-reply (W .ring) call) at e))
+
+module _ (ring : Ring) (call : Call) where
+  pub call-served : isServed (replyTo controller ring call) ≡ true
+      → replyTo controller ring call ≡ servedReply (toldAll ring (words call)) (lent call)
+  call-served e =
+      call-reply ring call
+      ∙ served-is (callRefusal ring call) (toldAll ring (words call)) ring (lent call) (rw (call-reply ring call) at e)
+
+  pub call-refused : isServed (replyTo controller ring call) ≡ false
+      → replyTo controller ring call ≡ refusedReply (callRefusal ring call) ring (lent call)
+  call-refused e =
+      call-reply ring call
+      ∙ refused-is (callRefusal ring call) (toldAll ring (words call)) ring (lent call) (rw (call-reply ring call) at e)

@@ -20,13 +20,12 @@ use Rattle.model.specs.Plant.{PartCommands, largest, parts, busFeed}
 use Rattle.model.specs.Choosing.{plan, commands, choiceOf}
 use Rattle.model.specs.Sheet.{opening, closing, sheet}
 use Rattle.model.specs.Reports.{healthOf, commandsOf, blankRing}
-use Rattle.model.specs.Refusals.{notOfRing, tooShort, startRefusal}
+use Rattle.model.specs.Refusals.{startRefusal}
 use Rattle.model.specs.Answers.{Reply, allDark}
 use Rattle.demands.specs.Statements.Demand3.{
   Controller,
   PlantState,
   freshPlant,
-  afterWord,
   afterWords,
   Operation,
   operation,
@@ -35,7 +34,6 @@ use Rattle.demands.specs.Statements.Demand3.{
   sheetLength,
   decode,
   Call,
-  step,
   Calls,
   _then_,
   replyTo,
@@ -45,8 +43,8 @@ use Rattle.demands.specs.Statements.Demand3.{
   World,
   excepted,
   shownAt,
-  wordRefusal,
 }
+use Rattle.demands.specs.Proofs.Answering.{callNumber}
 use Rattle.demands.specs.Refuting.Runs.{ordered, bothPhases, run}
 
 -- a start, the calls after it, and one call more, on which a claim is tested
@@ -131,10 +129,9 @@ onPhases (some ph) f = f ph
 
 -- the refusal that meets a call of the list, 0 where none does
 unfoldable pub due : ℕ → PlantState → Call → ℕ
-due n P (step r buffer) =
-    let w = wordRefusal (r .part) (r .word) in
-    let Q = afterWord r P in
-    cond (notOfRing n (r .part)) 5 (cond (eqb w 0) (cond (tooShort (length buffer) (sheet n (Q .last) (commands n (Q .health)))) 8 0) w)
+due n P call =
+    let Q = afterWords (words call) P in
+    callNumber n call (sheet n (Q .last) (commands n (Q .health)))
 
 unfoldable pub refusedInVain : ℕ → Reply → Bool
 refusedInVain k reply = not (isServed reply) && differ (outcomeNumber (reply .answer .outcome)) k

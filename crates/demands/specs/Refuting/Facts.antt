@@ -1,4 +1,4 @@
--- Facts of the tables in demand 3's statement: what is excepted, and what the decoder takes.
+-- Facts of the tables in demand 3's statement: the words of a call, what is excepted, and what the decoder takes.
 use mathlib.Core.Path.{_≡_, refl}
 use mathlib.Core.Bool.{true, false}
 use mathlib.Core.List.{[], _∷_}
@@ -9,10 +9,13 @@ use Rattle.model.specs.declared.Word.{Word}
 use Rattle.model.specs.declared.Word.the-variants.{Fit, StuckOff, StuckOpen, StuckClosed}
 use Rattle.model.specs.declared.Report.{Report}
 use Rattle.model.specs.Lists.{below, first, anyOf}
-use Rattle.model.specs.Values.{partCode}
+use Rattle.model.specs.Values.{partCode, samePart}
 use Rattle.model.specs.Plant.{parts}
 use Rattle.model.specs.Reports.{partNamed}
 use Rattle.demands.specs.Statements.Demand3.{
+  freshPlant,
+  afterWord,
+  afterWords,
   Operation,
   operation,
   commandNamed,
@@ -40,19 +43,30 @@ breaker2Open = report (BusBreaker 2) StuckOpen
 abbrev pub breaker2Fit : Report
 breaker2Fit = report (BusBreaker 2) Fit
 
+-- "the plant takes its reports' words in order": the last word for BB2 decides, and BB1 keeps its own
+in-order : (afterWords (breaker2Open ∷ breaker1Closed ∷ breaker2Fit ∷ []) freshPlant .health (BusBreaker 2) ≡ 0)
+    × (afterWords (breaker2Fit ∷ breaker1Closed ∷ breaker2Open ∷ []) freshPlant .health (BusBreaker 2) ≡ 2)
+    × (afterWords (breaker2Fit ∷ breaker1Closed ∷ breaker2Open ∷ []) freshPlant .health (BusBreaker 1) ≡ 3)
+unfolding afterWords afterWord samePart
+in-order = (refl, refl, refl)
+
 -- an order for BB1 to close
 abbrev closing1 : Operation
 closing1 = record { part = BusBreaker 1; command = true }
 
--- "The time excepted is that of a served word 3 ..; an empty first wave excepts nothing."
+-- "The time excepted is that of a served word 3 ..; an empty first wave excepts nothing."; "a word 3 among them", first or last
 excepts : (excepted (breaker1Closed ∷ []) (closing1 ∷ []) ≡ true)
     × (excepted (breaker2Fit ∷ []) (closing1 ∷ []) ≡ false)
     × (excepted (generator1Off ∷ []) (closing1 ∷ []) ≡ false)
     × (excepted (breaker2Open ∷ []) (closing1 ∷ []) ≡ false)
     × (excepted (breaker1Closed ∷ []) [] ≡ false)
     × (excepted [] (closing1 ∷ []) ≡ false)
+    × (excepted (breaker1Closed ∷ breaker2Open ∷ []) (closing1 ∷ []) ≡ true)
+    × (excepted (breaker2Open ∷ breaker1Closed ∷ []) (closing1 ∷ []) ≡ true)
+    × (excepted (breaker2Open ∷ breaker2Fit ∷ []) (closing1 ∷ []) ≡ false)
+    × (excepted (breaker1Closed ∷ breaker2Open ∷ []) [] ≡ false)
 unfolding excepted anyOf
-excepts = (refl, refl, refl, refl, refl, refl)
+excepts = (refl, refl, refl, refl, refl, refl, refl, refl, refl, refl)
 
 -- the decoder takes a sheet with bytes behind it, and refuses a byte that is no order, an unknown code and a short buffer
 decodes :

@@ -43,7 +43,6 @@ use Rattle.demands.specs.Statements.Demand3.{
   Phases,
   decode,
   Call,
-  step,
   Calls,
   _then_,
   nothing,
@@ -80,7 +79,7 @@ use Rattle.demands.specs.Statements.Demand3.{
   Demand3,
 }
 use Rattle.demands.specs.Proofs.Operations.{opening-at, closing-at}
-use Rattle.demands.specs.Proofs.Answering.{Judged, met, fine, judge-start, judge-step, StepFine}
+use Rattle.demands.specs.Proofs.Answering.{Judged, met, fine, judge-start, judge-call, CallFine}
 use Rattle.demands.specs.Statements.Demand2.{FirstPermitted, found, not-found, earlier, Needed, ToOpen, ToClose, Serves, Demand2}
 use Rattle.demands.specs.Theorems.Demand2.{earlier-chosen, needed-commanded}
 use Rattle.demands.specs.Refuting.Runs.{ordered, ordered-perm, cut-perm, bothPhases, both-performed, run, run-ended, ended-begun}
@@ -254,9 +253,9 @@ in-range c n buffer a s = go (dec-lt largest n)
     go (inr l) = l
 
 -- the refusal due to a call is the one that meets it
-due-judged : (n : ℕ) (P : PlantState) (call : Call) → n ≤ largest → (Fine : Type 0) × Judged (Meets n P call) Fine (due n P call)
+due-judged : (n : ℕ) (P : PlantState) (call : Call) → n ≤ largest → Judged (Meets n P call) (CallFine n P call) (due n P call)
 unfolding due
-due-judged n P (step r buffer) small = (StepFine n P r (length buffer), judge-step n n refl P r buffer _ small refl)
+due-judged n P call small = judge-call n P call _ small refl
 
 module _ (c : Controller) (i : Instance) where
   abbrev n : ℕ
@@ -454,7 +453,7 @@ module _ (c : Controller) (i : Instance) (d : Demand3 c) where
     claimed : Answered (Meets N (W .plant) (i .call)) (W .ring) (lent (i .call)) (replyIn c i W)
     claimed = holds .answered (i .call) whole h
 
-    judged : (Fine : Type 0) × Judged (Meets N (W .plant) (i .call)) Fine (due N (W .plant) (i .call))
+    judged : Judged (Meets N (W .plant) (i .call)) (CallFine N (W .plant) (i .call)) (due N (W .plant) (i .call))
     judged = due-judged N (W .plant) (i .call) (small (ended-begun h))
 
     chosen-in : isServed (replyIn c i W) ≡ true → AsChosen N (plantIn c i W) (replyIn c i W)
@@ -498,10 +497,10 @@ module _ (c : Controller) (i : Instance) (d : Demand3 c) where
   refutes3 claim.start-length-kept e = length-sound start-claimed e
   refutes3 claim.only e =
       let t = at-call c i (λ W reply. refusedInVain (due N (W .plant) (i .call)) reply) e in
-      only-sound (claimed (t .1)) (judged (t .1) .1) (t .2)
+      only-sound (claimed (t .1)) (judged (t .1)) (t .2)
   refutes3 claim.always e =
       let t = at-call c i (λ W reply. notRefused (due N (W .plant) (i .call)) reply) e in
-      always-sound (claimed (t .1)) (judged (t .1) .1) (t .2)
+      always-sound (claimed (t .1)) (judged (t .1)) (t .2)
   refutes3 claim.record-kept e = let t = at-call c i (λ W reply. recordChanged (W .ring) reply) e in record-sound (claimed (t .1)) (t .2)
   refutes3 claim.buffer-kept e =
       let t = at-call c i (λ W reply. bufferChanged (lent (i .call)) reply) e in buffer-sound (claimed (t .1)) (t .2)
@@ -735,7 +734,7 @@ module _ (c : Controller) (i : Instance) (d : Demand2 c) where
     serving : isServed (replyIn c i W) ≡ true → Serves M (plantIn c i W) (replyIn c i W)
     serving s = d .call-serves M (i .lending) (ended-begun h) (i .call) h s
 
-    judging : (Fine : Type 0) × Judged (Meets M (W .plant) (i .call)) Fine (due M (W .plant) (i .call))
+    judging : Judged (Meets M (W .plant) (i .call)) (CallFine M (W .plant) (i .call)) (due M (W .plant) (i .call))
     judging = due-judged M (W .plant) (i .call) (in-range c M (i .lending) starting (ended-begun h))
 
   -- a controller that meets the demand fails no test of its claims
@@ -744,7 +743,7 @@ module _ (c : Controller) (i : Instance) (d : Demand2 c) where
   refutes2 claim.start-answered e = only-sound starting (judge-start M (length (i .lending))) e
   refutes2 claim.call-answered e =
       let t = at-call c i (λ W reply. refusedInVain (due M (W .plant) (i .call)) reply) e in
-      only-sound (answering (t .1)) (judging (t .1) .1) (t .2)
+      only-sound (answering (t .1)) (judging (t .1)) (t .2)
   refutes2 claim.start-path e =
       let t = both (isServed (c .start M (i .lending))) _ e in path-sound (d .start-serves M (i .lending) (t .0)) (t .1)
   refutes2 claim.call-path e =

@@ -1,7 +1,8 @@
 -- The user's third demand as ONE statement about a controller, a served start and any list of calls after it.
 -- It knows nothing of how a controller comes to its answers. The plant is fed n, the words of served reports, whether each
 -- call was served, and the bytes of the lent buffers after served calls; never a record.
--- Document 01, "The plant beside the list". A stroke is an operation here, a halt an interruption, a wave a phase.
+-- Document 01, "The plant beside the list", and document 02, Note 2. A stroke is an operation here, a halt an interruption, a wave a
+-- phase.
 use mathlib.Core.Path.{_≡_}
 use mathlib.Core.Bool.{Bool, true, false, not, _&&_, cond}
 use mathlib.Core.Logic.{_≢_}
@@ -15,6 +16,7 @@ use Rattle.model.specs.declared.Part.the-variants.{Generator, GeneratorBreaker,
 use Rattle.model.specs.declared.Word.{Word}
 use Rattle.model.specs.declared.Word.the-variants.{Fit, StuckOff, StuckOpen, StuckClosed}
 use Rattle.model.specs.declared.Report.{Report}
+use Rattle.model.specs.declared.Scan.{Scan}
 use Rattle.model.specs.declared.Ring.{Ring}
 use Rattle.model.specs.declared.Choice.{Choice}
 use Rattle.model.specs.declared.Choice.the-variants as choice
@@ -29,11 +31,13 @@ use Rattle.model.specs.Choosing.{commands, choices}
 use Rattle.model.specs.Sheet.{opening, closing, sheet}
 use Rattle.model.specs.Reports.{partNamed, healthOf, commandsOf, blankRing}
 use Rattle.model.specs.Answers.{Reply, allDark}
+use Rattle.model.specs.Scans.{scanReports}
 
--- a controller: what it gives at a start, and at a step with the record handed in
+-- a controller: what it gives at a start, and at a step or a scan with the record handed in
 pub record Controller : Type 0 where
   pub start : ℕ → List ℕ → Reply
   pub step : Ring → Report → List ℕ → Reply
+  pub scan : Ring → Scan → List ℕ → Reply
 
 -- ---- the plant
 
@@ -58,7 +62,7 @@ effect StuckClosed = 3
 unfoldable pub afterWord : Report → PlantState → PlantState
 afterWord r P = record { health = λ p. cond (samePart p (r .part)) (effect (r .word)) (P .health p); last = P .last }
 
--- the words of a call, one after the other
+-- "the plant takes its reports' words in order before the first stroke": the words of a call, one after the other
 unfoldable pub afterWords : List Report → PlantState → PlantState
 afterWords [] P = P
 afterWords (r ∷ rs) P = afterWords rs (afterWord r P)
@@ -126,11 +130,12 @@ decode n bytes =
 
 -- ---- the list of calls
 
--- "each with any report and an order buffer of any length"
+-- "each with any report and an order buffer of any length"; "a scan may stand in demand 3's list"
 pub data Call : Type 0 where
   step : Report → List ℕ → Call
+  scan : Scan → List ℕ → Call
 
--- "any number of steps, or none", in the order in which they are made
+-- "any number of steps, or none", scans among them, in the order in which they are made
 pub data Calls : Type 0 where
   nothing : Calls
   _then_ : Calls → Call → Calls
@@ -144,14 +149,22 @@ pub data Begins (before : Calls) : Calls → Type 0 where
 -- "Each step gets the record that the call before it returned": what the controller gives
 abbrev pub replyTo : Controller → Ring → Call → Reply
 replyTo c ring (step r buffer) = c .step ring r buffer
+replyTo c ring (scan s buffer) = c .scan ring s buffer
 
--- the words that a served call brings
+-- the words that a served call brings; of a scan those up to its count
 abbrev pub words : Call → List Report
 words (step r buffer) = r ∷ []
+words (scan s buffer) = scanReports s
+
+-- how many reports a call is said to bring
+abbrev pub count : Call → ℕ
+count (step r buffer) = 1
+count (scan s buffer) = s .count
 
 -- the buffer that a call is lent
 abbrev pub lent : Call → List ℕ
 lent (step r buffer) = buffer
+lent (scan s buffer) = buffer
 
 -- "whether each call was served", by its outcome
 abbrev pub servedOutcome : Outcome → Bool
@@ -211,7 +224,7 @@ isEmpty [] = true
 isEmpty (x ∷ xs) = false
 
 -- "The time excepted is that of a served word 3, from its change of health until its first wave has fallen; an empty first
--- wave excepts nothing."
+-- wave excepts nothing."; "a word 3 among them excepts the time to the end of the scan's first wave"
 unfoldable pub excepted : List Report → List Operation → Bool
 excepted rs rest = anyOf (λ r. isStuckClosed (r .word)) rs && not (isEmpty rest)
 
@@ -221,6 +234,7 @@ pub data Interrupted (c : Controller) (n : ℕ) (buffer : List ℕ) (calls : Cal
       → decode n (c .start n buffer .buffer) ≡ some ph
       → Moment ph freshPlant rest P → Interrupted c n buffer calls P (excepted [] rest)
   between : {before : Calls} {W : World} → Begins before calls → Ended c n buffer before W → Interrupted c n buffer calls (W .plant) false
+  -- "no halt falling between two words": the moments of a call begin when its words have been taken
   in-call : {before : Calls} {W : World} (call : Call) {ph : Phases} {rest : List Operation} {P : PlantState}
       → Begins (before then call) calls
       → Ended c n buffer before W
@@ -288,13 +302,32 @@ pub data StartMeets (n room : ℕ) : ℕ → Type 0 where
   too-large : largest < n → StartMeets n room 2
   too-short : smallest ≤ n → n ≤ largest → room < sheetFor n freshPlant → StartMeets n room 8
 
--- "A step checks 9, 5, 6, 7, 8": the refusal that meets a call of the list; 9 meets none
-pub data Meets (n : ℕ) (P : PlantState) : Call → ℕ → Type 0 where
-  no-part : {r : Report} {buffer : List ℕ} → (InRing n (r .part) → ⊥) → Meets n P (step r buffer) 5
-  no-word : {r : Report} {buffer : List ℕ} {k : ℕ} → InRing n (r .part) → wordRefusal (r .part) (r .word) ≡ suc k
-      → Meets n P (step r buffer) (suc k)
-  no-room : {r : Report} {buffer : List ℕ} → InRing n (r .part) → wordRefusal (r .part) (r .word) ≡ 0
-      → length buffer < sheetFor n (afterWord r P) → Meets n P (step r buffer) 8
+-- "each 5, 6, 7": the refusal that meets a report alone
+pub data Bad (n : ℕ) (r : Report) : ℕ → Type 0 where
+  no-part : (InRing n (r .part) → ⊥) → Bad n r 5
+  no-word : {k : ℕ} → InRing n (r .part) → wordRefusal (r .part) (r .word) ≡ suc k → Bad n r (suc k)
+
+-- a report that none of them meets
+pub record Good (n : ℕ) (r : Report) : Type 0 where
+  pub inside : InRing n (r .part)
+  pub word : wordRefusal (r .part) (r .word) ≡ 0
+
+-- "The first bad report refuses the scan with the refusal that report alone would get"
+pub data FirstBad (n : ℕ) : List Report → ℕ → Type 0 where
+  here : {r : Report} {rs : List Report} {k : ℕ} → Bad n r k → FirstBad n (r ∷ rs) k
+  later : {r : Report} {rs : List Report} {k : ℕ} → Good n r → FirstBad n rs k → FirstBad n (r ∷ rs) k
+
+-- no report is bad
+pub data AllGood (n : ℕ) : List Report → Type 0 where
+  no-reports : AllGood n []
+  good-and : {r : Report} {rs : List Report} → Good n r → AllGood n rs → AllGood n (r ∷ rs)
+
+-- "A step checks 9, 5, 6, 7, 8"; "11 for a count above 64, after 9 and before the reports; 8 is checked last, for the scan's own
+-- sheet": the refusal that meets a call of the list; 9 meets none
+pub data Meets (n : ℕ) (P : PlantState) (call : Call) : ℕ → Type 0 where
+  too-many : 64 < count call → Meets n P call 11
+  bad-report : {k : ℕ} → count call ≤ 64 → FirstBad n (words call) k → Meets n P call k
+  no-room : count call ≤ 64 → AllGood n (words call) → length (lent call) < sheetFor n (afterWords (words call) P) → Meets n P call 8
 
 -- what is claimed of every call, by the refusals that meet it, the record that it gives where it is refused, and the buffer lent
 pub record Answered (Met : ℕ → Type 0) (kept : Ring) (buffer : List ℕ) (reply : Reply) : Type 0 where
@@ -332,5 +365,5 @@ pub record Holds (c : Controller) (n : ℕ) (buffer : List ℕ) (calls : Calls) 
 pub record Demand3 (c : Controller) : Type 0 where
   -- the start itself, for every n and every buffer; "A refused start has a record with n = 0 and every part fit and ordered off or open."
   pub start-answered : (n : ℕ) (buffer : List ℕ) → Answered (StartMeets n (length buffer)) (blankRing 0) buffer (c .start n buffer)
-  -- "a served start .. then any number of steps, or none"
+  -- "a served start .. then any number of steps, or none", scans among them
   pub holds : (n : ℕ) (buffer : List ℕ) → isServed (c .start n buffer) ≡ true → (calls : Calls) → Holds c n buffer calls

@@ -24,7 +24,8 @@ use Rattle.demands.specs.Statements.Demand3.{PlantState, Operation, oper
 use Rattle.demands.specs.Proofs.Operations.{any-order, operation-at, opening-at, opening-in, closing-at, closing-in}
 use Rattle.demands.specs.Proofs.Steady.{phasesOf, Replied, both-done}
 use Rattle.demands.specs.Proofs.Answering.{start-answered, start-fine}
-use Rattle.demands.specs.Theorems.Demand3.{controller, start-replied, call-replied, call-answered}
+use Rattle.demands.specs.Controller.{controller}
+use Rattle.demands.specs.Theorems.Demand3.{start-replied, call-replied, call-answered}
 use Rattle.demands.specs.Statements.Demand2.{FirstPermitted, found, not-found, earlier, Needed, ToOpen, ToClose, Serves, Demand2}
 
 -- ---- the first permitted path

@@ -1,4 +1,4 @@
--- Demand 3 holds of the controller whose answers are the definitions that the contracts of start and step cite.
+-- Demand 3 holds of the controller whose answers are the definitions that the contracts of start, step and scan cite.
 use mathlib.Core.Path.{_≡_, refl, sym, _∙_, ap}
 use mathlib.Core.Bool.{Bool, true, false, cond}
 use mathlib.Core.Logic.{_≢_, _⊎_, inl, inr}
@@ -11,6 +11,7 @@ use Rattle.model.specs.declared.Part.the-variants.{Generator, GeneratorBreaker,
 use Rattle.model.specs.declared.Word.{Word}
 use Rattle.model.specs.declared.Word.the-variants.{Fit, StuckOff, StuckOpen, StuckClosed}
 use Rattle.model.specs.declared.Report.{Report}
+use Rattle.model.specs.declared.Ring.{Ring}
 use Rattle.model.specs.declared.Choice.the-variants as choice
 use Rattle.model.specs.declared.Feed.the-variants as feed
 use Rattle.model.specs.Lists.{anyOf}
@@ -32,7 +33,8 @@ use Rattle.model.specs.Priority.{Path}
 use Rattle.model.specs.Choosing.{commands, choices, choiceOf, plan}
 use Rattle.model.specs.Sheet.{opening, closing}
 use Rattle.model.specs.Reports.{reported, healthOf, told}
-use Rattle.model.specs.Answers.{Reply, refusedAnswer, refusedReply, startReply, stepReply}
+use Rattle.model.specs.Answers.{Reply, refusedAnswer, refusedReply, startReply}
+use Rattle.model.specs.Scans.{toldAll}
 use Rattle.model.specs.Laws.Tests.{contra, dec, or-none}
 use Rattle.model.specs.Laws.Choosing.{choice-source, choice-dark, choices-at}
 use Rattle.model.specs.Laws.Parts.{same-eq, health-places}
@@ -41,7 +43,6 @@ use Rattle.theory.specs.Theorems.Feeds.{Single, no-clash, energized-fed, de-ene
 use Rattle.theory.specs.Theorems.Interruption.{Fewer, NoneStuckClosed, opening-single, closing-single}
 use Rattle.theory.specs.Theorems.Locality.{feed-ext}
 use Rattle.demands.specs.Statements.Demand3.{
-  Controller,
   PlantState,
   freshPlant,
   effect,
@@ -53,7 +54,6 @@ use Rattle.demands.specs.Statements.Demand3.{
   Phases,
   decode,
   Call,
-  step,
   Calls,
   nothing,
   _then_,
@@ -83,6 +83,10 @@ use Rattle.demands.specs.Statements.Demand3.{
   AsChosen,
   wordRefusal,
   lent,
+  Good,
+  AllGood,
+  no-reports,
+  good-and,
   Meets,
   Answered,
   Holds,
@@ -102,22 +106,19 @@ use Rattle.demands.specs.Proofs.Steady.{
   first-done,
   second-fewer,
 }
+use Rattle.demands.specs.Controller.{controller}
+use Rattle.demands.specs.Proofs.Answering as answering
 use Rattle.demands.specs.Proofs.Answering.{
   start-served,
   start-fine,
   start-answered,
   start-ready,
   blank-fit,
-  step-ready,
-  step-answered,
+  call-ready,
   served-fine,
-  step-served,
-  step-refused,
+  call-served,
+  call-refused,
 }
-
--- the controller of the definitions
-abbrev pub controller : Controller
-controller = record { start = startReply; step = stepReply }
 
 -- ---- after every call all is steady
 
@@ -137,30 +138,46 @@ word-of-kind (BusBreaker k) StuckOff e = absurd (omega arith)
 word-of-kind (BusBreaker k) StuckOpen e = refl
 word-of-kind (BusBreaker k) StuckClosed e = refl
 
--- the health of a ring after a report that is not refused
-module _ {n : ℕ} {W : World} (small : n ≤ largest) (s : Steady n W) (r : Report) (inside : InRing n (r .part))
-    (word : wordRefusal (r .part) (r .word) ≡ 0) where
-  told-is : (p : Part) → InRing largest p → healthOf (told (W .ring) r .health) p ≡ reported (healthOf (W .ring .health)) r p
-  unfolding told
-  told-is p i = health-places (reported (healthOf (W .ring .health)) r) p i
+-- a ring of n whose parts have healths of their kinds; above n they are fit
+record Kinds (n : ℕ) (ring : Ring) : Type 0 where
+  inside : (p : Part) → InRing n p → healthOfKind p (healthOf (ring .health) p) ≡ true
+  above : (p : Part) → InRing largest p → n < number p → healthOf (ring .health) p ≡ 0
 
-  told-kinds : (p : Part) → InRing n p → healthOfKind p (healthOf (told (W .ring) r .health) p) ≡ true
+steady-kinds : {n : ℕ} {W : World} → Steady n W → Kinds n (W .ring)
+steady-kinds s = record { inside = λ p i. rw (s .health p i) (s .kinds p i); above = λ p i l. s .above p i l .0 }
+
+-- a report that is not refused
+module _ {n : ℕ} {ring : Ring} (small : n ≤ largest) (k : Kinds n ring) (r : Report) (good : Good n r) where
+  told-is : (p : Part) → InRing largest p → healthOf (told ring r .health) p ≡ reported (healthOf (ring .health)) r p
+  unfolding told
+  told-is p i = health-places (reported (healthOf (ring .health)) r) p i
+
+  told-inside : (p : Part) → InRing n p → healthOfKind p (healthOf (told ring r .health) p) ≡ true
   unfolding reported
-  told-kinds p i = rw (told-is p (i .0, omega (arith, i .1))) (go (dec (samePart p (r .part))))
+  told-inside p i = rw (told-is p (i .0, omega (arith, i .1))) (go (dec (samePart p (r .part))))
     where
       go : (samePart p (r .part) ≡ true) ⊎ (samePart p (r .part) ≡ false)
-          → healthOfKind p (cond (samePart p (r .part)) (wordNumber (r .word)) (healthOf (W .ring .health) p)) ≡ true
-      go (inl e) = rw (e, same-eq p (r .part) e) (word-of-kind (r .part) (r .word) word)
-      go (inr e) = rw (e, s .health p i) (s .kinds p i)
+          → healthOfKind p (cond (samePart p (r .part)) (wordNumber (r .word)) (healthOf (ring .health) p)) ≡ true
+      go (inl e) = rw (e, same-eq p (r .part) e) (word-of-kind (r .part) (r .word) (good .word))
+      go (inr e) = rw e (k .inside p i)
 
-  told-above : (p : Part) → InRing largest p → n < number p → healthOf (told (W .ring) r .health) p ≡ 0
+  told-above : (p : Part) → InRing largest p → n < number p → healthOf (told ring r .health) p ≡ 0
   unfolding reported
   told-above p i l = told-is p i ∙ go (dec (samePart p (r .part)))
     where
       go : (samePart p (r .part) ≡ true) ⊎ (samePart p (r .part) ≡ false)
-          → cond (samePart p (r .part)) (wordNumber (r .word)) (healthOf (W .ring .health) p) ≡ 0
-      go (inl e) = absurd (omega (arith, ap number (same-eq p (r .part) e), inside .1))
-      go (inr e) = rw e (s .above p i l .0)
+          → cond (samePart p (r .part)) (wordNumber (r .word)) (healthOf (ring .health) p) ≡ 0
+      go (inl e) = absurd (omega (arith, ap number (same-eq p (r .part) e), good .inside .1))
+      go (inr e) = rw e (k .above p i l)
+
+  told-kinds : Kinds n (told ring r)
+  told-kinds = record { inside = told-inside; above = told-above }
+
+-- .. and several
+all-kinds : {n : ℕ} {ring : Ring} {rs : List Report} → n ≤ largest → Kinds n ring → AllGood n rs → Kinds n (toldAll ring rs)
+unfolding toldAll
+all-kinds small k no-reports = k
+all-kinds small k (good-and {r = r} g a) = all-kinds small (told-kinds small k r g) a
 
 -- what a buffer decodes to is one thing
 same-phases : {o : Option Phases} {x y : Phases} → o ≡ some x → o ≡ some y → x ≡ y
@@ -175,24 +192,23 @@ module _ (n : ℕ) (buffer : List ℕ) (big : smallest ≤ n) (small : n ≤ lar
       (λ p i l. blank-fit n p i) buffer
       (rw (same-phases (rw (start-served n buffer e) at d) (served-decodes small (start-ready n small) buffer)) at q))
 
-  pub step-steady : {W : World} {ph : Phases} {Q : PlantState} → Steady n W → (r : Report) (lending : List ℕ)
-      → isServed (stepReply (W .ring) r lending) ≡ true
-      → decode n (stepReply (W .ring) r lending .buffer) ≡ some ph → Performed ph (afterWord r (W .plant)) Q
-      → let a = stepReply (W .ring) r lending .answer in
+  pub call-steady : {W : World} {ph : Phases} {Q : PlantState} → Steady n W → (call : Call)
+      → isServed (replyTo controller (W .ring) call) ≡ true
+      → decode n (replyTo controller (W .ring) call .buffer) ≡ some ph → Performed ph (afterWords (words call) (W .plant)) Q
+      → let a = replyTo controller (W .ring) call .answer in
       Steady n (record { plant = Q; ring = a .ring; shown = a .choices })
-  step-steady {W} {ph} {Q} s r lending e d q =
-      let t = served-fine big small s r lending e in
-      let z = step-served (W .ring) r lending e in
+  call-steady {W} {ph} {Q} s call e d q =
+      let k = all-kinds small (steady-kinds s) (served-fine big small s call e .good) in
+      let z = call-served (W .ring) call e in
       rw z
-      (transition-steady small (step-ready small s r) (told-kinds small s r (t .inside) (t .word))
-      (told-above small s r (t .inside) (t .word)) lending
-      (rw (same-phases (rw z at d) (served-decodes small (step-ready small s r) lending)) at q))
+      (transition-steady small (call-ready small s call) (k .inside) (k .above) (lent call)
+      (rw (same-phases (rw z at d) (served-decodes small (call-ready small s call) (lent call))) at q))
 
   pub ended-steady : {calls : Calls} {W : World} → Ended controller n buffer calls W → Steady n W
-  unfolding afterWords refusedReply refusedAnswer
+  unfolding refusedReply refusedAnswer
   ended-steady (started e d q) = start-steady e d q
-  ended-steady (served (step r lending) h e d q) = step-steady (ended-steady h) r lending e d q
-  ended-steady (refused {W = W} (step r lending) h e) = rw (step-refused (W .ring) r lending e) (ended-steady h)
+  ended-steady (served call h e d q) = call-steady (ended-steady h) call e d q
+  ended-steady (refused {W = W} call h e) = rw (call-refused (W .ring) call e) (ended-steady h)
 
 -- ---- what is shown
 
@@ -355,27 +371,26 @@ module _ (n : ℕ) (buffer : List ℕ) (begun : isServed (startReply n buffer) �
   pub start-replied : Replied n freshPlant (startReply n buffer)
   start-replied = rw (start-served n buffer begun) (served-replied small (start-ready n small) buffer)
 
-  step-replied : {W : World} → Steady n W → (r : Report) (lending : List ℕ) → isServed (stepReply (W .ring) r lending) ≡ true
-      → Replied n (afterWord r (W .plant)) (stepReply (W .ring) r lending)
-  step-replied {W} s r lending e = rw (step-served (W .ring) r lending e) (served-replied small (step-ready small s r) lending)
-
   steady : {calls : Calls} {W : World} → Ended controller n buffer calls W → Steady n W
   steady h = ended-steady n buffer big small h
 
+  pub call-replied : {before : Calls} {W : World} (call : Call) → Ended controller n buffer before W
+      → isServed (replyTo controller (W .ring) call) ≡ true
+      → Replied n (afterWords (words call) (W .plant)) (replyTo controller (W .ring) call)
+  call-replied {W = W} call h e =
+      rw (call-served (W .ring) call e) (served-replied small (call-ready small (steady h) call) (lent call))
+
   ends : (calls : Calls) → (W : World) × Ended controller n buffer calls W
-  unfolding afterWords
   ends nothing = (_, started begun (start-replied .decoded) (performed (sheet-order _) (sheet-order _)))
-  ends (calls then step r lending) = go (ends calls)
+  ends (calls then call) = go (ends calls)
     where
-      go : (W : World) × Ended controller n buffer calls W → (W : World) × Ended controller n buffer (calls then step r lending) W
-      go t = by (dec (isServed (stepReply (t .0 .ring) r lending)))
+      go : (W : World) × Ended controller n buffer calls W → (W : World) × Ended controller n buffer (calls then call) W
+      go t = by (dec (isServed (replyTo controller (t .0 .ring) call)))
         where
-          by : (isServed (stepReply (t .0 .ring) r lending) ≡ true) ⊎ (isServed (stepReply (t .0 .ring) r lending) ≡ false)
-              → (W : World) × Ended controller n buffer (calls then step r lending) W
-          by (inl e) =
-              let read = step-replied (steady (t .1)) r lending e .decoded in
-              (_, served (step r lending) (t .1) e read (performed (sheet-order _) (sheet-order _)))
-          by (inr e) = (_, refused (step r lending) (t .1) e)
+          by : (isServed (replyTo controller (t .0 .ring) call) ≡ true) ⊎ (isServed (replyTo controller (t .0 .ring) call) ≡ false)
+              → (W : World) × Ended controller n buffer (calls then call) W
+          by (inl e) = (_, served call (t .1) e (call-replied call (t .1) e .decoded) (performed (sheet-order _) (sheet-order _)))
+          by (inr e) = (_, refused call (t .1) e)
 
   -- what stands between calls is planned
   as-planned : {calls : Calls} {W : World} → Ended controller n buffer calls W → Fewer n (W .plant .last) (commands n (W .plant .health))
@@ -390,15 +405,9 @@ module _ (n : ℕ) (buffer : List ℕ) (begun : isServed (startReply n buffer) �
   call-free P₀ rs reply {rest = rest} stands replied d m u b hb =
       moment-single n P₀ rs stands (rw (same-phases d (replied .decoded)) at m) (unless rs rest u) b hb
 
-  pub call-replied : {before : Calls} {W : World} (call : Call) → Ended controller n buffer before W
-      → isServed (replyTo controller (W .ring) call) ≡ true
-      → Replied n (afterWords (words call) (W .plant)) (replyTo controller (W .ring) call)
-  unfolding afterWords
-  call-replied (step r lending) h e = step-replied (steady h) r lending e
-
   pub call-answered : {before : Calls} {W : World} (call : Call) → Ended controller n buffer before W
       → Answered (Meets n (W .plant) call) (W .ring) (lent call) (replyTo controller (W .ring) call)
-  call-answered (step r lending) h = step-answered big small (steady h) r lending
+  call-answered call h = answering.call-answered big small (steady h) call
 
   in-call-free : (W : World) {before : Calls} {P : PlantState} (call : Call) {ph : Phases} {rest : List Operation}
       → Ended controller n buffer before W
@@ -416,7 +425,6 @@ module _ (n : ℕ) (buffer : List ℕ) (begun : isServed (startReply n buffer) �
   clash-free (in-call {W = W} call i h e d m) u = in-call-free W call h e d m u
 
   holds : (calls : Calls) → Holds controller n buffer calls
-  unfolding afterWords
   holds calls = record {
     ends = ends calls;
     shown = λ i h b hb. bus-shown small (steady h) b hb;

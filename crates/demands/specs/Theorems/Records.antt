@@ -36,13 +36,30 @@ use Rattle.model.specs.Choosing.{commands, choices}
 use Rattle.model.specs.Reports.{reported, allFit, healthOf, commandsOf, healthPlaces, commandPlaces, blankRing, told, planned, withPlan}
 use Rattle.model.specs.Refusals.{sizeOutside, healthOutside, activeAbove, unplanned, badRecord}
 use Rattle.model.specs.Answers.{Reply, servedAnswer, servedReply, refusedAnswer, refusedReply, startReply, stepReply}
+use Rattle.model.specs.Scans.{toldAll}
 use Rattle.model.specs.Laws.Tests.{contra, dec, dec-lt, or-none, or-cases}
 use Rattle.model.specs.Laws.Lists.{any-in, any-none}
 use Rattle.model.specs.Laws.Parts.{at-index, parts-in, parts-at, same-eq, same-refl, is-places, places-ext, health-places}
 use Rattle.model.specs.Laws.Sheet.{sheet-fits}
 use Rattle.model.specs.Laws.Refusals.{good-size}
 use Rattle.theory.specs.Theorems.Locality.{Agree, commands-ext, commands-held}
-use Rattle.demands.specs.Statements.Demand3.{freshPlant, afterWord, performed, World, isServed, wordRefusal}
+use Rattle.demands.specs.Statements.Demand3.{
+  freshPlant,
+  afterWords,
+  Call,
+  step,
+  replyTo,
+  words,
+  lent,
+  isServed,
+  World,
+  performed,
+  wordRefusal,
+  Good,
+  no-reports,
+  good-and,
+}
+use Rattle.demands.specs.Controller.{controller}
 use Rattle.demands.specs.Statements.Records.{Made, started, stepped, Arrays}
 use Rattle.demands.specs.Proofs.Operations.{sheet-order}
 use Rattle.demands.specs.Proofs.Steady.{not-commanded, Steady, served-decodes, steady-good}
@@ -52,13 +69,12 @@ use Rattle.demands.specs.Proofs.Answering.{
   start-ready,
   start-served,
   fine-begun,
-  step-ready,
-  step-served,
-  step-refused,
-  StepFine,
+  call-ready,
+  call-served,
+  call-refused,
   fine-served,
 }
-use Rattle.demands.specs.Theorems.Demand3.{start-steady, step-steady}
+use Rattle.demands.specs.Theorems.Demand3.{start-steady, call-steady}
 
 -- ---- a record that is made is good
 
@@ -66,25 +82,25 @@ use Rattle.demands.specs.Theorems.Demand3.{start-steady, step-steady}
 Stands : Ring → Type 0
 Stands ring = (n : ℕ) × (W : World) × (smallest ≤ n) × (n ≤ largest) × Steady n W × (W .ring ≡ ring)
 
--- one step more, served or refused
-step-stands : {n : ℕ} {W : World} → smallest ≤ n → n ≤ largest → Steady n W → (r : Report) (buffer : List ℕ)
-    → Stands (stepReply (W .ring) r buffer .answer .ring)
+-- one call more, served or refused
+call-stands : {n : ℕ} {W : World} → smallest ≤ n → n ≤ largest → Steady n W → (call : Call)
+    → Stands (replyTo controller (W .ring) call .answer .ring)
 unfolding Stands refusedReply refusedAnswer
-step-stands {n} {W} big small s r buffer = go (dec (isServed (stepReply (W .ring) r buffer)))
+call-stands {n} {W} big small s call = go (dec (isServed (replyTo controller (W .ring) call)))
   where
-    go : (isServed (stepReply (W .ring) r buffer) ≡ true) ⊎ (isServed (stepReply (W .ring) r buffer) ≡ false)
-        → Stands (stepReply (W .ring) r buffer .answer .ring)
+    go : (isServed (replyTo controller (W .ring) call) ≡ true) ⊎ (isServed (replyTo controller (W .ring) call) ≡ false)
+        → Stands (replyTo controller (W .ring) call .answer .ring)
     go (inl e) =
-        let d = served-decodes small (step-ready small s r) buffer in (
+        let d = served-decodes small (call-ready small s call) (lent call) in (
           n,
           _,
           big,
           small,
-          step-steady n buffer big small s r buffer e (rw (← step-served (W .ring) r buffer e) at d)
+          call-steady n (lent call) big small s call e (rw (← call-served (W .ring) call e) at d)
               (performed (sheet-order _) (sheet-order _)),
           refl,
         )
-    go (inr e) = (n, W, big, small, s, rw (step-refused (W .ring) r buffer e))
+    go (inr e) = (n, W, big, small, s, rw (call-refused (W .ring) call e))
 
 made-stands : {ring : Ring} → Made ring → Stands ring
 unfolding Stands
@@ -101,7 +117,7 @@ made-stands (started n buffer big small e) =
 made-stands (stepped {ring = ring} r buffer m) = go (made-stands m)
   where
     go : Stands ring → Stands (stepReply ring r buffer .answer .ring)
-    go t = rw (t .5) at (step-stands (t .2) (t .3) (t .4) r buffer)
+    go t = rw (t .5) at (call-stands (t .2) (t .3) (t .4) (step r buffer))
 
 -- a record that start and steps make is not refused
 pub made-good : {ring : Ring} → Made ring → badRecord ring ≡ false
@@ -130,16 +146,21 @@ ring-ext n H K small same = λ i. record {
     inside : Agree n H K
     inside p r = same p (r .0, omega (arith, r .1))
 
--- a ring is served a report with a word for its part and full room
-served-step : {n : ℕ} {W : World} → smallest ≤ n → n ≤ largest → Steady n W → (r : Report) → InRing n (r .part)
-    → wordRefusal (r .part) (r .word) ≡ 0
-    → stepReply (W .ring) r fullRoom .answer .ring ≡ withPlan (told (W .ring) r)
-unfolding servedReply servedAnswer
-served-step {n} {W} big small s r i w =
-    let Q = afterWord r (W .plant) in
+-- a good report and full room: served
+pub served-step : {n : ℕ} {W : World} → smallest ≤ n → n ≤ largest → Steady n W → (r : Report) → Good n r
+    → isServed (stepReply (W .ring) r fullRoom) ≡ true
+served-step {n} {W} big small s r good =
+    let call = step r fullRoom in
+    let Q = afterWords (words call) (W .plant) in
     let fits = sheet-fits n (Q .last) (commands n (Q .health)) small in
-    let f : StepFine n (W .plant) r (length fullRoom) = record { inside = i; word = w; fits = omega (arith, full-length) } in
-    ap (λ (x : Reply). x .answer .ring) (step-served (W .ring) r fullRoom (fine-served big small s r fullRoom f))
+    fine-served big small s call (record { few = omega arith; good = good-and good no-reports; fits = omega (arith, full-length) })
+
+-- .. with the ring that was told it
+stepped-ring : {n : ℕ} {W : World} → smallest ≤ n → n ≤ largest → Steady n W → (r : Report) → Good n r
+    → stepReply (W .ring) r fullRoom .answer .ring ≡ withPlan (told (W .ring) r)
+unfolding servedReply servedAnswer toldAll
+stepped-ring {W = W} big small s r good =
+    ap (λ (x : Reply). x .answer .ring) (call-served (W .ring) (step r fullRoom) (served-step big small s r good))
 
 -- a word for a part's health, unless the part is fit
 Spoken : Part → ℕ → Type 0
@@ -227,7 +248,7 @@ module _ (n : ℕ) (big : smallest ≤ n) (small : n ≤ largest) (H : PartHealt
       go : Stands (ringFor n (partial ps)) → Made (ringFor n (partial (p ∷ ps)))
       go t =
           let size : t .0 ≡ n = sym (t .4 .size) ∙ ap (λ (x : Ring). x .n) (t .5) in
-          let z = served-step (t .2) (t .3) (t .4) r (i .0, omega (arith, i .1)) f in
+          let z = stepped-ring (t .2) (t .3) (t .4) r (record { inside = (i .0, omega (arith, i .1)); word = f }) in
           rw (rw (t .5) at z ∙ add p ps w e) at (stepped r fullRoom m)
 
   makes : (ps : List Part) → ((p : Part) → p ∈ ps → InRing n p) → Made (ringFor n (partial ps))
@@ -279,7 +300,7 @@ module _ (ring : Ring) (good : badRecord ring ≡ false) where
       let u : not (fit (H p)) || C p ≡ false = rw (lt-ltb N (number p) l) at t in
       eqb-true (H p) 0 (not-false (fit (H p)) (or-none (not (fit (H p))) (C p) u .0))
 
-  as-planned : (p : Part) → InRing largest p → C p ≡ commands N H p
+  pub as-planned : (p : Part) → InRing largest p → C p ≡ commands N H p
   unfolding unplanned
   as-planned p i =
       beq-eq (C p) (commands N H p) (any-none (λ q. not (Bool·beq (C q) (commands N H q))) (conditions .3) (parts-in largest p i))
@@ -302,12 +323,31 @@ module _ (ring : Ring) (good : badRecord ring ≡ false) where
     shown = refl;
   }
 
--- a step from a good record gives one
-pub step-good : (ring : Ring) → badRecord ring ≡ false → (r : Report) (buffer : List ℕ)
-    → badRecord (stepReply ring r buffer .answer .ring) ≡ false
+  -- the plan of a good record, arrays of 20 places, is the record's own
+  pub plan-kept : Arrays ring → withPlan ring ≡ ring
+  unfolding withPlan planned commandPlaces commandsOf
+  plan-kept arrays = sym (λ i. record {
+    n = ring .n;
+    health = ring .health;
+    commands = record {
+      generators =
+          is-places (λ j. commands N H (generator j)) (ring .commands .generators) false (arrays .generator-commands)
+          (λ j l. as-planned (generator j) (at-index largest j l)) i;
+      «generator_breakers» =
+          is-places (λ j. commands N H (generatorBreaker j)) (ring .commands .«generator_breakers») false
+          (arrays .generator-breaker-commands)
+          (λ j l. as-planned (generatorBreaker j) (at-index largest j l)) i;
+      «bus_breakers» =
+          is-places (λ j. commands N H (busBreaker j)) (ring .commands .«bus_breakers») false (arrays .bus-breaker-commands)
+          (λ j l. as-planned (busBreaker j) (at-index largest j l)) i;
+    };
+  })
+
+-- a call with a good record gives one
+pub call-good : (ring : Ring) → badRecord ring ≡ false → (call : Call) → badRecord (replyTo controller ring call .answer .ring) ≡ false
 unfolding Stands
-step-good ring good r buffer =
-    let t = step-stands (good-size ring good .0) (good-size ring good .1) (good-steady ring good) r buffer in
+call-good ring good call =
+    let t = call-stands (good-size ring good .0) (good-size ring good .1) (good-steady ring good) call in
     rw (t .5) at (steady-good (t .4) (t .2) (t .3))
 
 module _ (ring : Ring) (arrays : Arrays ring) (good : badRecord ring ≡ false) where

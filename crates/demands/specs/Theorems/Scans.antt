@@ -1,0 +1,262 @@
+-- Document 02, Note 2: a scan beside the single steps of its reports.
+use mathlib.Core.Path.{_≡_, refl, sym, _∙_, ap}
+use mathlib.Core.Bool.{Bool, true, false, not, _&&_}
+use mathlib.Core.Logic.{_≢_, _⊎_, inl, inr}
+use mathlib.Core.List.{List, [], _∷_, _++_}
+use Prim.Native.Nat.{ℕ, zero, suc, _≤_, _<_}
+use native.Mathlib.Omega.{arith}
+use lib.ListN.{length, getD, take}
+use borrow.Author.Tests.{le-ltb, ne-eqb}
+use Rattle.model.specs.declared.Part.{Part}
+use Rattle.model.specs.declared.Report.{Report}
+use Rattle.model.specs.declared.Scan.{Scan}
+use Rattle.model.specs.declared.Commands.{Commands}
+use Rattle.model.specs.declared.Ring.{Ring}
+use Rattle.model.specs.declared.BusChoice.{BusChoice}
+use Rattle.model.specs.declared.Outcome.the-variants as outcome
+use Rattle.model.specs.Lists.{_∈_}
+use Rattle.model.specs.Plant.{PartCommands, parts}
+use Rattle.model.specs.Choosing.{commands}
+use Rattle.model.specs.Sheet.{opening, closing, sheetOf, sheet, written}
+use Rattle.model.specs.Reports.{healthOf, commandsOf, commandPlaces, told, planned, withPlan}
+use Rattle.model.specs.Refusals.{firstMet, orElse, badRecord, countAbove, tooShort, sheetRefusal, nextSheet, reportConditions, stepRefusal}
+use Rattle.model.specs.Answers.{Reply, servedAnswer, servedReply, refusedAnswer, refusedReply, stepReply}
+use Rattle.model.specs.Scans.{scanReports, toldAll, firstRefusal, scanRefusal, scanReply}
+use Rattle.model.specs.Laws.Tests.{contra, dec, dec-eq}
+use Rattle.model.specs.Laws.Lists.{keep-none}
+use Rattle.model.specs.Laws.Parts.{parts-at}
+use Rattle.model.specs.Laws.Refusals.{good-size}
+use Rattle.model.specs.Laws.Calls.{or-nothing, step-refusal, scan-refusal}
+use Rattle.model.specs.Laws.Scans.{told-size, told-standing}
+use Rattle.theory.specs.Theorems.Locality.{sheet-held}
+use Rattle.demands.specs.Statements.Demand3.{step, scan, isServed, AllGood, no-reports, good-and}
+use Rattle.demands.specs.Statements.Records.{Made, stepped, Arrays}
+use Rattle.demands.specs.Statements.Scans.{calledFor, Singly, no-step, first-step}
+use Rattle.demands.specs.Proofs.Answering.{fullRoom, served-fine, call-served, call-refused}
+use Rattle.demands.specs.Theorems.Records.{as-planned, plan-kept, good-steady, served-step, call-good}
+
+-- ---- a served scan
+
+module _ (ring : Ring) (s : Scan) (buffer : List ℕ) (yes : isServed (scanReply ring s buffer) ≡ true) where
+  -- the ring that was told all its reports, with its plan
+  scan-is : scanReply ring s buffer ≡ servedReply (toldAll ring (scanReports s)) buffer
+  scan-is = call-served ring (scan s buffer) yes
+
+  -- its record is good
+  served-record : badRecord ring ≡ false
+  unfolding scanReply scanRefusal firstMet refusedReply refusedAnswer
+  served-record = go (dec (badRecord ring))
+    where
+      go : (badRecord ring ≡ true) ⊎ (badRecord ring ≡ false) → badRecord ring ≡ false
+      go (inl e) = contra yes (rw e)
+      go (inr e) = e
+
+  -- and so are its reports
+  served-reports : AllGood (ring .n) (scanReports s)
+  served-reports =
+      let good = served-record in
+      let size = good-size ring good in
+      served-fine (size .0) (size .1) (good-steady ring good) (scan s buffer) yes .good
+
+  -- "the sheet goes straight from the first standing orders to the last"
+  pub sheet-straight : let last = scanReply ring s buffer .answer .ring .commands in
+      scanReply ring s buffer .buffer ≡ written (sheet (ring .n) (commandsOf (ring .commands)) (commandsOf last)) buffer
+  unfolding servedReply servedAnswer withPlan nextSheet toldAll
+  sheet-straight =
+      let told-ring = toldAll ring (scanReports s) in
+      let held = sheet-held (ring .n) (commandsOf (ring .commands)) (planned told-ring) (good-size ring served-record .1) in
+      rw (scan-is, told-size ring (scanReports s), told-standing ring (scanReports s)) (ap (λ bytes. written bytes buffer) (sym held))
+
+-- ---- "The record and choices must be those that single steps would end with"
+
+-- the commands of a ring do not alter what it is told
+told-health : (rs : List Report) (ring : Ring) (C : Commands)
+    → toldAll (record { n = ring .n; health = ring .health; commands = C }) rs .health ≡ toldAll ring rs .health
+unfolding toldAll told
+told-health [] ring C = refl
+told-health (r ∷ rs) ring C = told-health rs (told ring r) C
+
+-- a plan between two words leaves no trace in the record or in the choices
+replanned : (rs : List Report) (ring : Ring)
+    → let later = toldAll (withPlan ring) rs in
+    (withPlan later ≡ withPlan (toldAll ring rs)) × (calledFor later ≡ calledFor (toldAll ring rs))
+unfolding withPlan planned
+replanned rs ring =
+    let h = told-health rs ring (commandPlaces (commands (ring .n) (healthOf (ring .health)))) in
+    let a = told-size (withPlan ring) rs in
+    let b = told-size ring rs in
+    (rw (h, a, b), rw (h, a, b))
+
+-- what single steps end with, from a record with its plan
+singly-ends : {ring last : Ring} {shown last-shown : List BusChoice} {rs : List Report} → Singly ring shown rs last last-shown
+    → withPlan ring ≡ ring → shown ≡ calledFor ring
+    → (last ≡ withPlan (toldAll ring rs)) × (last-shown ≡ calledFor (toldAll ring rs))
+unfolding toldAll servedReply servedAnswer withPlan planned
+singly-ends no-step p q = (sym p, q)
+singly-ends {ring} (first-step {rs = rs} r buffer e d) p q =
+    let z = call-served ring (step r buffer) e in
+    let t = singly-ends d (rw z) (rw z) in
+    let u = replanned rs (told ring r) in
+    ((rw z at (t .0)) ∙ u .0, (rw z at (t .1)) ∙ u .1)
+
+-- single steps with good reports are served, each in a buffer with room for every sheet
+singly : {n : ℕ} {rs : List Report} → AllGood n rs → (ring : Ring) (shown : List BusChoice) → badRecord ring ≡ false → ring .n ≡ n
+    → (last : Ring) × (last-shown : List BusChoice) × Singly ring shown rs last last-shown
+unfolding servedReply servedAnswer withPlan toldAll told
+singly no-reports ring shown good size = (ring, shown, no-step)
+singly {n} (good-and {r = r} g a) ring shown good size =
+    let bounds = good-size ring good in
+    let e = served-step (bounds .0) (bounds .1) (good-steady ring good) r (rw size g) in
+    let a₁ = stepReply ring r fullRoom .answer in
+    let same : a₁ .ring .n ≡ n = rw (call-served ring (step r fullRoom) e) size in
+    let t = singly a (a₁ .ring) (a₁ .choices) (call-good ring good (step r fullRoom)) same in
+    (t .0, t .1, first-step r fullRoom e (t .2))
+
+module _ (ring : Ring) (arrays : Arrays ring) (s : Scan) (buffer : List ℕ) (yes : isServed (scanReply ring s buffer) ≡ true) where
+  -- whatever single steps of its reports are served, they end with the record and the choices of the scan
+  pub as-single-steps : {last : Ring} {last-shown : List BusChoice} → Singly ring (calledFor ring) (scanReports s) last last-shown
+      → (scanReply ring s buffer .answer .ring ≡ last) × (scanReply ring s buffer .answer .choices ≡ last-shown)
+  unfolding servedReply servedAnswer
+  as-single-steps d =
+      let t = singly-ends d (plan-kept ring (served-record ring s buffer yes) arrays) refl in
+      let z = scan-is ring s buffer yes in
+      (rw z (sym (t .0)), rw z (sym (t .1)))
+
+  -- and there are such steps
+  pub single-steps : let a = scanReply ring s buffer .answer in Singly ring (calledFor ring) (scanReports s) (a .ring) (a .choices)
+  single-steps =
+      let t = singly (served-reports ring s buffer yes) ring (calledFor ring) (served-record ring s buffer yes) refl in
+      let u = as-single-steps (t .2) in
+      rw (u .0, u .1) (t .2)
+
+-- a scan makes no record that start and steps do not make
+singly-made : {ring last : Ring} {shown last-shown : List BusChoice} {rs : List Report} → Singly ring shown rs last last-shown
+    → Made ring → Made last
+singly-made no-step m = m
+singly-made (first-step r buffer e d) m = singly-made d (stepped r buffer m)
+
+pub scan-made : (ring : Ring) → Arrays ring → Made ring → (s : Scan) (buffer : List ℕ) → Made (scanReply ring s buffer .answer .ring)
+unfolding refusedReply refusedAnswer
+scan-made ring arrays m s buffer = go (dec (isServed (scanReply ring s buffer)))
+  where
+    go : (isServed (scanReply ring s buffer) ≡ true) ⊎ (isServed (scanReply ring s buffer) ≡ false)
+        → Made (scanReply ring s buffer .answer .ring)
+    go (inl e) = singly-made (single-steps ring arrays s buffer e) m
+    go (inr e) = rw (call-refused ring (scan s buffer) e) m
+
+-- ---- "The first bad report refuses the scan with the refusal that report alone would get, and nothing changes."
+
+bad-after : (n : ℕ) (front : List Report) (r : Report) (back : List Report) → firstRefusal n front ≡ 0
+    → firstMet (reportConditions n r) ≢ 0
+    → firstRefusal n (front ++ (r ∷ back)) ≡ firstMet (reportConditions n r)
+unfolding firstRefusal
+bad-after n [] r back e f = rw (ne-eqb (firstMet (reportConditions n r)) 0 f)
+bad-after n (q ∷ front) r back e f = go (λ z. bad-after n front r back z f) (dec-eq (firstMet (reportConditions n q)) 0)
+  where
+    go : (firstRefusal n front ≡ 0 → firstRefusal n (front ++ (r ∷ back)) ≡ firstMet (reportConditions n r))
+        → (firstMet (reportConditions n q) ≡ 0) ⊎ (firstMet (reportConditions n q) ≢ 0)
+        → orElse (firstMet (reportConditions n q)) (firstRefusal n (front ++ (r ∷ back))) ≡ firstMet (reportConditions n r)
+    go ih (inl z) = let rest : firstRefusal n front ≡ 0 = rw z at e in rw z (ih rest)
+    go ih (inr z) = absurd (z (rw (ne-eqb (firstMet (reportConditions n q)) 0 z) at e))
+
+-- of a good record and a count that is not refused, the report r is the first bad one
+module _ (ring : Ring) (good : badRecord ring ≡ false) (s : Scan) (few : s .count ≤ 64) (front : List Report) (r : Report)
+    (back : List Report) (are : scanReports s ≡ front ++ (r ∷ back)) (before : firstRefusal (ring .n) front ≡ 0)
+    (bad : firstMet (reportConditions (ring .n) r) ≢ 0) (buffer : List ℕ) where
+  -- its refusal
+  abbrev K : ℕ
+  K = firstMet (reportConditions (ring .n) r)
+
+  scan-number : scanRefusal ring s (length buffer) ≡ K
+  unfolding firstMet countAbove
+  scan-number =
+      scan-refusal ring good s (length buffer)
+      ∙ rw (le-ltb 64 (s .count) few, are, bad-after (ring .n) front r back before bad, ne-eqb K 0 bad)
+
+  step-number : stepRefusal ring r (length buffer) ≡ K
+  step-number = step-refusal ring good r (length buffer) ∙ rw (ne-eqb K 0 bad)
+
+  pub first-bad-refuses : scanReply ring s buffer ≡ refusedReply K ring buffer
+  unfolding scanReply
+  first-bad-refuses = rw (scan-number, ne-eqb K 0 bad)
+
+  -- "the refusal that report alone would get"
+  pub as-alone : stepReply ring r buffer ≡ refusedReply K ring buffer
+  unfolding stepReply
+  as-alone = rw (step-number, ne-eqb K 0 bad)
+
+-- ---- "No reports means the record as it was, the choices it calls for and two empty waves."
+
+-- nothing changes between a good record's standing commands and those that it calls for
+still : (ring : Ring) → badRecord ring ≡ false → nextSheet ring ≡ 0 ∷ 0 ∷ []
+unfolding nextSheet sheet sheetOf opening closing planned
+still ring good =
+    rw (
+      keep-none (λ p. C p && not (N p)) (parts (ring .n)) (λ p m. same p m .0),
+      keep-none (λ p. not (C p) && N p) (parts (ring .n)) (λ p m. same p m .1),
+    )
+  where
+    C : PartCommands
+    C = commandsOf (ring .commands)
+
+    N : PartCommands
+    N = commands (ring .n) (healthOf (ring .health))
+
+    equal : (a b : Bool) → a ≡ b → (a && not b ≡ false) × (not a && b ≡ false)
+    equal true b e = (rw (← e), refl)
+    equal false b e = (refl, sym e)
+
+    same : (p : Part) → p ∈ parts (ring .n) → (C p && not (N p) ≡ false) × (not (C p) && N p ≡ false)
+    same p m =
+        let i = parts-at (ring .n) p m in
+        equal (C p) (N p) (as-planned ring good p (i .0, omega (arith, i .1, good-size ring good .1)))
+
+pub empty-scan : (ring : Ring) → Arrays ring → badRecord ring ≡ false → (s : Scan) → s .count ≡ 0 → (buffer : List ℕ) → 2 ≤ length buffer
+    → scanReply ring s buffer ≡ record {
+      answer = record { outcome = outcome.Served; ring = ring; choices = calledFor ring };
+      buffer = written (0 ∷ 0 ∷ []) buffer;
+    }
+unfolding scanReply scanRefusal firstMet countAbove firstRefusal toldAll sheetRefusal tooShort servedReply servedAnswer
+empty-scan ring arrays good s none buffer enough =
+    rw (none, good, still ring good, le-ltb (length buffer) 2 enough, plan-kept ring good arrays)
+
+-- ---- "places past the count are not read"
+
+take-same : (d : Report) (k : ℕ) (xs ys : List Report) → length xs ≡ length ys
+    → ((i : ℕ) → i < k → getD xs i d ≡ getD ys i d) → take k xs ≡ take k ys
+take-same d zero xs ys e h = refl
+take-same d (suc k) [] [] e h = refl
+take-same d (suc k) [] (y ∷ ys) e h = absurd (omega arith)
+take-same d (suc k) (x ∷ xs) [] e h = absurd (omega arith)
+take-same d (suc k) (x ∷ xs) (y ∷ ys) e h =
+    let here : x ≡ y = h 0 (omega arith) in
+    let rest = take-same d k xs ys (omega arith) (λ i l. h (suc i) (omega arith)) in
+    rw (here, rest)
+
+-- two scans of 64 places that agree up to the count have one answer and leave one buffer
+pub past-count : (ring : Ring) (s t : Scan) (buffer : List ℕ) (d : Report) → length (s .reports) ≡ 64 → length (t .reports) ≡ 64
+    → s .count ≡ t .count
+    → ((i : ℕ) → i < s .count → getD (s .reports) i d ≡ getD (t .reports) i d) → scanReply ring s buffer ≡ scanReply ring t buffer
+unfolding scanReply scanRefusal
+past-count ring s t buffer d a b e h = rw (take-same d (s .count) (s .reports) (t .reports) (a ∙ sym b) h, e)
+
+-- ---- a scan of one report is a step
+
+module _ (ring : Ring) (s : Scan) (r : Report) (buffer : List ℕ) (few : s .count ≤ 64) (is : scanReports s ≡ r ∷ []) where
+  nine : badRecord ring ≡ true → scanRefusal ring s (length buffer) ≡ stepRefusal ring r (length buffer)
+  unfolding scanRefusal stepRefusal firstMet
+  nine e = rw e
+
+  not-nine : badRecord ring ≡ false → scanRefusal ring s (length buffer) ≡ stepRefusal ring r (length buffer)
+  unfolding firstMet firstRefusal countAbove toldAll
+  not-nine e =
+      scan-refusal ring e s (length buffer)
+      ∙ rw (le-ltb 64 (s .count) few, is, or-nothing (firstMet (reportConditions (ring .n) r))) (sym (step-refusal ring e r (length buffer)))
+
+  pub one-report : scanReply ring s buffer ≡ stepReply ring r buffer
+  unfolding scanReply stepReply toldAll
+  one-report = rw (is, number (dec (badRecord ring)))
+    where
+      number : (badRecord ring ≡ true) ⊎ (badRecord ring ≡ false) → scanRefusal ring s (length buffer) ≡ stepRefusal ring r (length buffer)
+      number (inl e) = nine e
+      number (inr e) = not-nine e
