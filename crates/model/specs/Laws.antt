@@ -10,3 +10,4 @@ pub mod Appended
 pub mod Answers
 pub mod CutSets
 pub mod Spaced
+pub mod Scans
