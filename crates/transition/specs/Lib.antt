@@ -1,3 +1,3 @@
--- The laws of a start and a step.
+-- The laws of a start, a step and a scan.
 pub mod Advance
 pub mod Replies

@@ -1,13 +1,15 @@
--- The replies to a start and to a step, by the checks that they pass.
+-- The replies to a start, a step and a scan, by the checks that they pass.
 use mathlib.Core.Path.{_≡_, refl, sym, _∙_, ap}
 use mathlib.Core.Bool.{Bool, true, false, cond}
 use mathlib.Core.List.{List}
-use Prim.Native.Nat.{ℕ, _≤_}
+use Prim.Native.Nat.{ℕ, _≤_, _<_}
+use native.Mathlib.Omega.{arith}
 use lib.ListN.{length}
-use borrow.Author.Tests.{ne-eqb}
+use borrow.Author.Tests.{lt-ltb, le-ltb, ne-eqb}
 use Rattle.model.specs.declared.Report.{Report}
 use Rattle.model.specs.declared.Ring.{Ring}
 use Rattle.model.specs.declared.RingAnswer.{RingAnswer}
+use Rattle.model.specs.declared.Scan.{Scan}
 use Rattle.model.specs.declared.Outcome.{Outcome}
 use Rattle.model.specs.declared.Outcome.the-variants.{Served, Refused}
 use Rattle.model.specs.Values.{wordNumber, outcomeOf}
@@ -20,6 +22,7 @@ use Rattle.model.specs.Refusals.{
   wordOfOtherKind,
   generatorFitAgain,
   badRecord,
+  countAbove,
   nextSheet,
   reportConditions,
   sheetRefusal,
@@ -27,8 +30,10 @@ use Rattle.model.specs.Refusals.{
   stepRefusal,
 }
 use Rattle.model.specs.Answers.{refusedAnswer}
-use Rattle.model.specs.Laws.Refusals.{inside, served-zero, refused-number}
+use Rattle.model.specs.Scans.{scanReports, toldAll, firstRefusal, scanRefusal}
+use Rattle.model.specs.Laws.Refusals.{inside, good-size, served-zero, refused-number}
 use Rattle.model.specs.Laws.Answers.{Gives, gives-refused}
+use Rattle.model.specs.Laws.Scans.{told-size}
 
 -- the start of a ring of a good size: 8 is left
 module _ (n : ℕ) (big : smallest ≤ n) (small : n ≤ largest) where
@@ -79,3 +84,43 @@ module _ (ring : Ring) (good : badRecord ring ≡ false) (r : Report) where
         let z = refused-number checked j e in
         let k : stepRefusal ring r (length buffer) ≡ report-refusal = step-refusal (length buffer) ∙ rw (ne-eqb report-refusal 0 (z .1)) in
         rw k (gives-refused _ _ _ _ _ (z .1) (is ∙ ap (λ l. refusedAnswer l ring) (sym (z .0))))
+
+-- the scan of a good record: 11, then 5, 6 and 7 of its first bad report, then 8
+module _ (ring : Ring) (good : badRecord ring ≡ false) (s : Scan) where
+  -- the ring told the scan's reports
+  abbrev scanned : Ring
+  scanned = toldAll ring (scanReports s)
+
+  -- the refusal of the reports
+  abbrev reports-refusal : ℕ
+  reports-refusal = firstRefusal (ring .n) (scanReports s)
+
+  -- k is the number that the code refuses by
+  pub scan-above : 64 < s .count → (buffer : List ℕ) (k : ℕ) → k ≡ 11 → (a : RingAnswer) → a ≡ refusedAnswer k ring
+      → Gives (scanRefusal ring s (length buffer)) scanned ring buffer a buffer
+  unfolding scanRefusal firstMet countAbove
+  scan-above h buffer k e a is =
+      rw (good, lt-ltb 64 (s .count) h) (gives-refused 11 _ _ _ _ (λ z. omega arith) (is ∙ ap (λ l. refusedAnswer l ring) e))
+
+  -- no report changes the size of the ring
+  pub scanned-size : (next : Ring) → next ≡ scanned → (smallest ≤ next .n) × (next .n ≤ largest)
+  scanned-size next is = rw (is, told-size ring (scanReports s)) (good-size ring good)
+
+  module _ (few : s .count ≤ 64) where
+    scan-refusal : (room : ℕ) → scanRefusal ring s room ≡ orElse reports-refusal (sheetRefusal room (nextSheet scanned))
+    unfolding scanRefusal firstMet countAbove
+    scan-refusal room = rw (good, le-ltb 64 (s .count) few)
+
+    -- the outcome of the reports' checks
+    module _ (buffer : List ℕ) (o : Outcome) (checked : o ≡ outcomeOf reports-refusal) (a : RingAnswer) where
+      pub scan-advanced : o ≡ Served → (next : Ring) → next ≡ scanned → (after : List ℕ)
+          → Gives (sheetRefusal (length buffer) (nextSheet next)) next ring buffer a after
+          → Gives (scanRefusal ring s (length buffer)) scanned ring buffer a after
+      scan-advanced e next is after gives = rw (scan-refusal (length buffer), served-zero checked e) (rw is at gives)
+
+      pub scan-refused : (j : ℕ) → o ≡ Refused j → a ≡ refusedAnswer j ring
+          → Gives (scanRefusal ring s (length buffer)) scanned ring buffer a buffer
+      scan-refused j e is =
+          let z = refused-number checked j e in
+          let k : scanRefusal ring s (length buffer) ≡ reports-refusal = scan-refusal (length buffer) ∙ rw (ne-eqb reports-refusal 0 (z .1)) in
+          rw k (gives-refused _ _ _ _ _ (z .1) (is ∙ ap (λ l. refusedAnswer l ring) (sym (z .0))))

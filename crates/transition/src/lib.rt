@@ -1,4 +1,4 @@
-// The inner start and step, for callers that hold a ring state (document 01: ring record) made by start and steps.
+// The inner start, step and scan, for callers that hold a ring state (document 01: ring record) made by start, steps and scans.
 ghost use mathlib.Core.Path.{_≡_};
 ghost use mathlib.Core.Bool.{false};
 ghost use Prim.Native.Nat.{_≤_};
@@ -7,10 +7,12 @@ ghost use Rattle.model.specs.Values.{outcomeNumber, choiceValues};
 ghost use Rattle.model.specs.Reports.{blankRing, told as toldRing};
 ghost use Rattle.model.specs.Refusals.{badRecord, nextSheet, sheetRefusal, startRefusal, stepRefusal};
 ghost use Rattle.model.specs.Answers.{replyBy, startReply, stepReply, callValues};
+ghost use Rattle.model.specs.Scans.{scanReports, toldAll, scanRefusal, scanReply};
 use model::Outcome;
 use model::Report;
 use model::Ring;
 use model::RingAnswer;
+use model::Scan;
 
 // A ring that was told its reports, taken to the commands that its health calls for: "gives the new record, each bus's choice and the
 // sheet", or the ring kept where 8 refuses.
@@ -57,7 +59,7 @@ pub fn start(n: u8, buffer: &mut [u8]) -> RingAnswer
 }
 
 // "A step takes a record and a report, and gives the new record, each bus's choice and the sheet." An inner call: refusal 9 does not
-// meet the ring state, which start and steps made or its callers have checked.
+// meet the ring state, which start, steps and scans made or its callers have checked.
 pub fn step(ring: Ring, report: Report, buffer: &mut [u8]) -> RingAnswer
     requires { ⌜ badRecord ring ≡ false ⌝ }
     ensures answer { λ r. ⌜ r ≡ stepReply ring report (now (buffer .entry)) .answer ⌝ }
@@ -70,6 +72,29 @@ pub fn step(ring: Ring, report: Report, buffer: &mut [u8]) -> RingAnswer
     // 5, 6 and 7 come before the plan, and so before 8.
     match reports::check_report(ring.n, report) {
         Outcome::Served => advance(rings::told(ring, report), ring, buffer),
+        Outcome::Refused(number) => rings::refused(number, ring),
+    }
+}
+
+// "The record and choices must be those that single steps would end with, and the sheet goes straight from the first standing orders to
+// the last.": told all its reports, the ring is planned once. An inner call: refusal 9 does not meet the ring state, which start, steps
+// and scans made or its callers have checked.
+pub fn scan(ring: Ring, scan: Scan, buffer: &mut [u8]) -> RingAnswer
+    requires { ⌜ badRecord ring ≡ false ⌝ }
+    ensures answer { λ r. ⌜ r ≡ scanReply ring scan (now (buffer .entry)) .answer ⌝ }
+    ensures bytes { λ r. ⌜ now (buffer .exit) ≡ scanReply ring scan (now (buffer .entry)) .buffer ⌝ }
+    ensures number { λ r. ⌜ outcomeNumber (r .outcome) ≡ scanRefusal ring scan (length (now (buffer .entry))) ⌝ }
+    ensures values { λ r. ⌜
+        choiceValues (r .choices) ≡ callValues (scanRefusal ring scan (length (now (buffer .entry)))) (toldAll ring (scanReports scan))
+        ⌝ }
+{
+    // "11 for a count above 64, after 9 and before the reports".
+    if 64 < scan.count {
+        return rings::refused(11, ring);
+    }
+    // "8 is checked last, for the scan's own sheet": the reports are checked before the plan.
+    match scans::check(ring.n, scan) {
+        Outcome::Served => advance(scans::told(ring, scan), ring, buffer),
         Outcome::Refused(number) => rings::refused(number, ring),
     }
 }

@@ -1,0 +1,2 @@
+-- The laws of a scan's reports.
+pub mod Reports
