@@ -1,12 +1,16 @@
 -- A call's line in the front of a lent buffer. Reports are counted from 0.
 use mathlib.Core.Path.{_≡_}
+use mathlib.Core.Bool.{false}
 use mathlib.Core.List.{List}
 use Prim.Native.Nat.{ℕ}
 use lib.ListN.{length}
 use Rattle.model.specs.declared.Ring.{Ring}
+use Rattle.model.specs.declared.Scan.{Scan}
 use Rattle.model.specs.Reports.{withPlan}
 use Rattle.model.specs.Sheet.{written}
+use Rattle.model.specs.Refusals.{badRecord}
 use Rattle.model.specs.Text.{transitionLine}
+use Rattle.model.specs.ScanText.{scanText, scanState}
 
 -- a text stands in the front of a lent buffer: the buffer before and after, and the text's length
 pub record Stored (text before after : List ℕ) (size : ℕ) : Type 0 where
@@ -17,6 +21,12 @@ pub record Stored (text before after : List ℕ) (size : ℕ) : Type 0 where
 pub record Shown (i : ℕ) (ring : Ring) (before after : List ℕ) (next : Ring) (size : ℕ) : Type 0 where
   pub state : next ≡ withPlan ring
   pub stored : Stored (transitionLine i ring) before after size
+
+-- the text of a scan stands there, line i or its refusal, and next is the ring state behind it, which is a good one
+pub record Answered (i : ℕ) (ring : Ring) (s : Scan) (before after : List ℕ) (next : Ring) (size : ℕ) : Type 0 where
+  pub state : next ≡ scanState ring s
+  pub good : badRecord next ≡ false
+  pub stored : Stored (scanText i ring s) before after size
 
 -- a line by its number and its ring
 pub same-line : {i j : ℕ} {ring told : Ring} {before after : List ℕ} {next : Ring} {size : ℕ} → Shown i told before after next size

@@ -1,37 +1,43 @@
 -- A served start or step, from its answer and its sheet's bytes to its line. A ring is one that was told its reports.
-use mathlib.Core.Path.{_≡_, refl}
+use mathlib.Core.Path.{_≡_, refl, sym, _∙_, ap}
 use mathlib.Core.Bool.{false}
-use mathlib.Core.Logic.{inl, inr}
+use mathlib.Core.Logic.{inl, inr, _≢_}
 use mathlib.Core.List.{List}
 use mathlib.Core.Option.{Option, none, some}
 use Prim.Native.Nat.{ℕ, _+_, _*_, _≤_}
 use native.Mathlib.Omega.{arith}
 use lib.ListN.{length, replicate, length-replicate}
-use borrow.Author.Tests.{le-ltb}
+use borrow.Author.Tests.{le-ltb, ne-eqb}
 use Rattle.model.specs.declared.Part.{Part}
 use Rattle.model.specs.declared.Report.{Report}
 use Rattle.model.specs.declared.Ring.{Ring}
+use Rattle.model.specs.declared.Scan.{Scan}
 use Rattle.model.specs.declared.RingAnswer.{RingAnswer}
+use Rattle.model.specs.declared.Outcome.the-variants.{Served, Refused}
 use Rattle.model.specs.declared.Choice.the-variants.{Dark}
+use Rattle.model.specs.Values.{outcomeNumber}
 use Rattle.model.specs.Plant.{PartHealth, smallest, largest}
 use Rattle.model.specs.Priority.{Path}
 use Rattle.model.specs.Choosing.{choices, choiceOf, chosen, plan}
 use Rattle.model.specs.Sheet.{opening, closing, sheet, written}
 use Rattle.model.specs.Reports.{healthOf, commandsOf, blankRing, told, planned, withPlan}
 use Rattle.model.specs.Refusals.{firstMet, tooShort, badRecord, nextSheet, reportConditions, startRefusal, stepRefusal}
-use Rattle.model.specs.Answers.{Reply, servedAnswer, servedReply, startReply, stepReply}
-use Rattle.model.specs.Text.{transitionLine}
+use Rattle.model.specs.Answers.{Reply, refusedAnswer, refusedReply, servedAnswer, servedReply, startReply, stepReply}
+use Rattle.model.specs.Text.{transitionLine, refusedText}
+use Rattle.model.specs.Scans.{scanReports, toldAll, scanRefusal, scanReply}
+use Rattle.model.specs.ScanText.{sheetRoom, scanText, scanState}
 use Rattle.model.specs.Laws.Sheet.{sheet-fits, sheetOf-length}
-use Rattle.model.specs.Laws.Refusals.{inside, good-size}
+use Rattle.model.specs.Laws.Refusals.{inside, good-size, served-refused}
+use Rattle.model.specs.Laws.Scans.{told-size}
 use Rattle.model.specs.Laws.Choosing.{choices-at, choice-source}
 use Rattle.theory.specs.Proofs.Choosing.{chosen-ends}
 use Rattle.demands.specs.Proofs.Operations.{opening-at, closing-at}
 use Rattle.demands.specs.Statements.Records.{started}
-use Rattle.demands.specs.Statements.Demand3.{step}
+use Rattle.demands.specs.Statements.Demand3.{step, scan}
 use Rattle.demands.specs.Theorems.Records.{call-good, made-good}
 use Rattle.buses.specs.Buses.{AllNamed, Named}
 use Rattle.lines.specs.SheetLine.{SheetBytes, sheetLine, sheet-is, sheet-line}
-use Rattle.calls.specs.Lines.{Shown}
+use Rattle.calls.specs.Lines.{Shown, Answered}
 
 -- ---- the answer and the sheet of a transition
 
@@ -152,3 +158,65 @@ pub next-good : (ring : Ring) → badRecord ring ≡ false → (r : Report) → 
 unfolding servedReply servedAnswer
 next-good ring good r checked =
     rw (step-serves ring good r checked sheetBuffer sheet-buffer) at (call-good ring good (step r sheetBuffer))
+
+-- ---- the text of a scan of a good ring state, with a buffer of 122 bytes
+
+module _ (ring : Ring) (good : badRecord ring ≡ false) (s : Scan) (buffer : List ℕ) (full : length buffer ≡ sheetRoom) (a : RingAnswer)
+    (after : List ℕ) (answered : a ≡ scanReply ring s buffer .answer) (left : after ≡ scanReply ring s buffer .buffer)
+    (number : outcomeNumber (a .outcome) ≡ scanRefusal ring s (length buffer)) where
+  -- the ring told its reports
+  abbrev all-told : Ring
+  all-told = toldAll ring (scanReports s)
+
+  number-is : (k : ℕ) → outcomeNumber (a .outcome) ≡ k → scanRefusal ring s sheetRoom ≡ k
+  number-is k e = ap (scanRefusal ring s) (sym full) ∙ sym number ∙ e
+
+  next-good-scan : badRecord (a .ring) ≡ false
+  next-good-scan = rw answered (call-good ring good (scan s buffer))
+
+  module _ (served : a .outcome ≡ Served) where
+    reply-served : scanReply ring s buffer ≡ servedReply all-told buffer
+    unfolding scanReply
+    reply-served = rw (full, number-is 0 (ap outcomeNumber served))
+
+    scan-given : Given all-told a after
+    scan-given =
+        served-given all-told (rw (told-size ring (scanReports s)) (good-size ring good .1)) buffer reply-served a after answered left
+
+    -- what its line is made of
+    pub scan-named : AllNamed (ring .n) (a .choices) × SheetBytes after
+    scan-named = (rw (told-size ring (scanReports s)) at (scan-given .named), scan-given .sheet)
+
+    pub scan-served : (i : ℕ) (before out : List ℕ) (size : ℕ)
+        → out ≡ written (sheetLine i (ring .n) (a .choices) after) before
+        → size ≡ length (sheetLine i (ring .n) (a .choices) after)
+        → Answered i ring s before out (a .ring) size
+    unfolding scanText scanState
+    scan-served i before out size e f =
+        let same = told-size ring (scanReports s) in
+        let t = scan-given .shown i before out size (rw same e) (rw same f) in
+        let z = number-is 0 (ap outcomeNumber served) in
+        record { state = rw z (t .state); good = next-good-scan; stored = rw z (t .stored) }
+
+  module _ (k : ℕ) (refused : a .outcome ≡ Refused k) where
+    refusal-is : scanRefusal ring s sheetRoom ≡ k
+    refusal-is = number-is k (ap outcomeNumber refused)
+
+    not-served : k ≢ 0
+    unfolding scanReply servedReply servedAnswer
+    not-served e = served-refused {k = k} (ap (λ (x : RingAnswer). x .outcome) answered ∙ rw (full, refusal-is, e)) refused
+
+    kept : a .ring ≡ ring
+    unfolding scanReply refusedReply refusedAnswer
+    kept = ap (λ (x : RingAnswer). x .ring) answered ∙ rw (full, refusal-is, ne-eqb k 0 not-served)
+
+    pub scan-unserved : (j i : ℕ) (before out : List ℕ) (size : ℕ) → j ≡ k → out ≡ written (refusedText j) before
+        → size ≡ length (refusedText j) → Answered i ring s before out (a .ring) size
+    unfolding scanText scanState
+    scan-unserved j i before out size same e f =
+        let z = ne-eqb k 0 not-served in
+        record {
+          state = rw (refusal-is, z) kept;
+          good = next-good-scan;
+          stored = rw (refusal-is, z, ← same) (record { bytes = e; sized = f });
+        }

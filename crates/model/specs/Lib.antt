@@ -13,3 +13,4 @@ pub mod Text
 pub mod CutSets
 pub mod CutText
 pub mod Scans
+pub mod ScanText
