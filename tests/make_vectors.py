@@ -16,6 +16,9 @@ step    starts and steps with damaged records and short buffers: n (and then 255
 cuts    minimal cut sets, with damaged records, buses outside the ring and short buffers: n, 60 healths, 60 commands, the bus,
         2 bytes length of the buffer, low byte first, at most 1024; then the number of the outcome, 2 bytes count, low byte
         first, and the buffer, which held 170 in every byte.
+scans   scans with any counts, bad reports at any place, damaged records and short buffers: n, 60 healths, 60 commands, the count,
+        64 places of three bytes each, a report's kind, number and word, and the buffer's length; then as in step the number of the
+        outcome, the record, the choices and the buffer, which held 170 in every byte.
 """
 import argparse
 import functools
@@ -127,11 +130,16 @@ def answer_bytes(answer, buffer):
     return bytes([answer.refusal, record.n]) + places(record.health) + places(record.orders) + choices + bytes(buffer)
 
 
+def report_bytes(report):
+    return bytes([KINDS.index(report.part.kind), report.part.number, report.word])
+
+
 def stepped(record, part, word, room):
     buffer = bytearray([170] * room)
     before = bytes([record.n, 0]) + places(record.health) + places(record.orders)
-    answer = rs.step(record, rs.Report(part, word), buffer)
-    return before + bytes([KINDS.index(part.kind), part.number, word, room]) + answer_bytes(answer, buffer)
+    report = rs.Report(part, word)
+    answer = rs.step(record, report, buffer)
+    return before + report_bytes(report) + bytes([room]) + answer_bytes(answer, buffer)
 
 
 def steps(rng):
@@ -278,6 +286,173 @@ def cuts(rng):
     return itertools.chain(settled_cuts(), refused_cuts(), worn_cuts(rng))
 
 
+RINGS = (3, 4, 5, 8, 12, 20)
+
+
+def report_on(kind, number, word):
+    return rs.Report(rs.Part(kind, number), word)
+
+
+def any_report(rng):
+    """A report on any part, with any number, most often a bad one."""
+    return report_on(rng.choice(KINDS), rng.choice([0, 1, 2, 3, rng.randrange(256)]), rng.randrange(4))
+
+
+def good_reports(rng, n, count, off=.05):
+    """Reports that are served; off is the share of generators that go off, which no later word brings back."""
+    return [report_on("G", rng.randint(1, n), 1) if rng.random() < off
+            else report_on(rng.choice(["GB", "BB"]), rng.randint(1, n), rng.choice([0, 0, 2, 3])) for _ in range(count)]
+
+
+def bad_reports(rng, n):
+    """A report of each flaw: two that are refused by 5, two by 6 and one by 7."""
+    inside = rng.randint(1, n)
+    return [report_on(rng.choice(KINDS), 0, rng.randrange(4)), report_on(rng.choice(KINDS), n + 1, rng.randrange(4)),
+            report_on("G", inside, rng.choice([2, 3])), report_on(rng.choice(["GB", "BB"]), inside, 1), report_on("G", inside, 0)]
+
+
+def with_report(reports, place, report):
+    return reports[:place] + [report] + reports[place + 1:]
+
+
+def scan_case(rng, record, reports, count, room):
+    """A case of a scan. The places behind its reports hold any others, which must not be read."""
+    scanned = reports + [any_report(rng) for _ in range(rs.MOST_SCANNED - len(reports))]
+    before = bytes([record.n]) + places(record.health) + places(record.orders) + bytes([count])
+    buffer = bytearray([170] * room)
+    answer = rs.scan(record, scanned, count, buffer)
+    return before + b"".join(map(report_bytes, scanned)) + bytes([room]) + answer_bytes(answer, buffer)
+
+
+def scan_length(record, reports):
+    """The length of the sheet of a scan that is served."""
+    sheet = bytearray(rs.LONGEST_SHEET)
+    assert rs.scan(record, reports, len(reports), sheet).refusal == 0
+    return 2 + 2 * (sheet[0] + sheet[1])
+
+
+def stepped_through(record, reports):
+    """The records of the reports' single steps, the first before them all and the last behind them."""
+    step = lambda before, report: rs.step(before, report, bytearray(rs.LONGEST_SHEET)).record
+    return list(itertools.accumulate(reports, step, initial=record))
+
+
+def longest_step(record, reports):
+    """The length of the longest sheet that the reports' single steps have."""
+    return max(scan_length(before, [report]) for before, report in zip(stepped_through(record, reports), reports))
+
+
+def with_rooms(record, reports):
+    """The scan of all these reports with a buffer as long as its sheet, and with one a byte shorter."""
+    length = scan_length(record, reports)
+    return [(record, reports, len(reports), room) for room in (length, length - 1)]
+
+
+def counted_scans(rng):
+    """Each edge of the count; one above 64 is refused by 11, before bad reports and short buffers."""
+    for n in RINGS:
+        record = rs.record_for(n, worn_health(rng, n))
+        for count in (0, 1, 2, 63, 64):
+            yield from with_rooms(record, good_reports(rng, n, count))
+        for count in (65, 255):
+            yield record, good_reports(rng, n, 64), count, rs.LONGEST_SHEET
+            yield record, bad_reports(rng, n), count, 0
+
+
+def bad_scans(rng):
+    """A bad report of each flaw at each place of a full scan; then at the last place that is counted and at the first that is not."""
+    for place in range(rs.MOST_SCANNED):
+        n = RINGS[place % len(RINGS)]
+        record, reports = rs.record_for(n), good_reports(rng, n, rs.MOST_SCANNED)
+        for flaw, bad in enumerate(bad_reports(rng, n)):
+            yield record, with_report(reports, place, bad), rs.MOST_SCANNED, 0 if flaw == place % 5 else 40
+        bad = bad_reports(rng, n)[place % 5]
+        yield record, with_report(reports, place, bad), place + 1, 40
+        yield record, with_report(reports, place, bad), place, scan_length(record, reports[:place])
+
+
+def twice_bad_scans(rng):
+    """Two bad reports of different numbers, the first of which decides, with long buffers and short ones."""
+    for first, second in itertools.permutations(range(5), 2):
+        n = rng.choice(RINGS)
+        one, other = bad_reports(rng, n)[first], bad_reports(rng, n)[second]
+        if rs.report_refusal(n, one, rs.BASE) != rs.report_refusal(n, other, rs.BASE):
+            count = rng.randint(2, rs.MOST_SCANNED)
+            before, behind = sorted(rng.sample(range(count), 2))
+            reports = with_report(with_report(good_reports(rng, n, count), before, one), behind, other)
+            yield from ((rs.record_for(n), reports, count, room) for room in (0, 40))
+
+
+def settled_scans():
+    """Scans that Note 2 of document 02 speaks of, or that its readers may stumble over."""
+    for n in (3, 5, 20):
+        parts = [rs.part_of_code(code) for code in rs.codes_of_ring(n)]
+        breakers = [part for part in parts if part.kind != "G"]
+        stuck = rs.record_for(n, {part.code: 2 + part.number % 2 for part in breakers})
+        for record, reports in (
+                (rs.record_for(n), [("BB", 2, 2), ("BB", 2, 3), ("BB", 2, 2)]),                   # the last word decides
+                (rs.record_for(n), [("BB", 2, 2), ("GB", 1, 3), ("BB", 2, 3), ("GB", 1, 2)]),
+                (rs.record_for(n), [("BB", 2, 2)] * 64),
+                (rs.record_for(n), [("BB", 2, 3), ("BB", 2, 0)]),                                 # a word 3, and its return
+                (rs.record_for(n), [("BB", 1, 3), ("BB", 2, 2), ("BB", 1, 0)]),
+                (rs.record_for(n), [("BB", 1, 3), ("GB", 3, 3)]),
+                (rs.record_for(n), [("BB", 2, 2), ("BB", 2, 0)]),                                 # one that undoes itself
+                (rs.record_for(n), [("BB", 2, 2), ("GB", 2, 2), ("GB", 2, 0), ("BB", 2, 0)] * 16),
+                (rs.record_for(n), [("G", 1, 1), ("G", 1, 1)]),                                   # a generator goes off twice
+                (rs.record_for(n), [("G", k, 1) for k in range(1, n + 1)]),                       # every bus dark
+                (rs.record_for(n), [(part.kind, part.number, 1 if part.kind == "G" else 2) for part in parts]),
+                (rs.record_for(n), [("BB", k, 3) for k in range(1, n + 1)]),                      # all buses joined
+                (stuck, []), (stuck, [(part.kind, part.number, 0) for part in breakers]),         # all breakers come back
+                (rs.record_for(n), [])):                                                          # "two empty waves"
+            yield from with_rooms(record, [report_on(*report) for report in reports])
+        yield from ((rs.record_for(n), [], 0, room) for room in (0, 3, 255))
+
+
+def own_sheet_scans(rng):
+    """"8 is checked last, for the scan's own sheet": buffers too short for a single step, but not for the scan, and the other way."""
+    shorter, longer = [], []
+    while min(len(shorter), len(longer)) < 24:
+        n = rng.choice(RINGS)
+        record, reports = rs.record_for(n, worn_health(rng, n)), good_reports(rng, n, rng.randint(2, 12))
+        own, step = scan_length(record, reports), longest_step(record, reports)
+        if own < step:
+            shorter.append((record, reports, len(reports), rng.randrange(own, step)))
+        elif step < own:
+            longer.append((record, reports, len(reports), rng.randrange(step, own)))
+    return shorter[:24] + longer[:24]
+
+
+def refused_scans(rng):
+    """9 before 11, bad reports and short buffers: damaged records."""
+    for n in (3, 8):
+        for k, record in enumerate(damaged_records(n)):
+            count = (0, 1, 2, 63, 64)[k % 5]
+            yield record, good_reports(rng, n, count), count, 40
+            yield record, bad_reports(rng, n), (5, 64, 65, 255)[k % 4], 0
+
+
+def listed_scans(rng):
+    """Long lists of scans and steps, each with the record last given; among the scans are refused ones."""
+    for n in RINGS:
+        record = rs.record_for(n)
+        for k in range(50):
+            reports = good_reports(rng, n, rng.choice([0, 1, 2, 3, 5, 8, 20, 64]), off=.003 * n)
+            if k % 2:
+                record = stepped_through(record, reports)[-1]
+                continue
+            room = scan_length(record, reports) + rng.choice([0, 0, 0, 1, 30, -1])
+            if reports and rng.random() < .1:
+                reports[rng.randrange(len(reports))] = rng.choice(bad_reports(rng, n))
+            yield record, reports, len(reports), room
+            record = rs.scan(record, reports, len(reports), bytearray(room)).record
+
+
+def scans(rng):
+    calls = itertools.chain(counted_scans(rng), bad_scans(rng), twice_bad_scans(rng), settled_scans(), own_sheet_scans(rng),
+                            refused_scans(rng), listed_scans(rng))
+    return (scan_case(rng, *call) for call in calls)
+
+
 def feed_words(answer):
     """An answer of the reckoning as ringplant prints it."""
     words = {"dark": "dark", "fed": "G%d", "clash": "clash G%d G%d"}
@@ -376,11 +551,12 @@ def all_cases(seeds, started):
     yield "vectors_plant", list(plant(random.Random(seeds[1])))
     yield "vectors_step", list(steps(random.Random(seeds[2])))
     yield "vectors_cuts", list(itertools.chain(started, cuts(random.Random(seeds[3]))))
+    yield "vectors_scan", list(scans(random.Random(seeds[4])))
 
 
 def stored_files():
     """The files that are stored below crates/, and their bytes."""
-    for crate, cases in all_cases([1, 2, 3, 4], started_cuts()):
+    for crate, cases in all_cases([1, 2, 3, 4, 5], started_cuts()):
         yield os.path.join(crate, "data", "cases"), b"".join(cases)
         yield os.path.join(crate, "stdout"), b"%d cases, 0 differ\n" % len(cases)
     n, health, commands = gate_plant()
@@ -400,7 +576,7 @@ def store():
 
 def make_others(seed, folder):
     """Other cases, drawn by a seed."""
-    for crate, cases in all_cases(["%s %d" % (seed, k) for k in range(4)], []):
+    for crate, cases in all_cases(["%s %d" % (seed, k) for k in range(5)], []):
         write(os.path.join(folder, crate, "cases"), b"".join(cases))
         print("%s: %d cases" % (crate, len(cases)))
 

@@ -1,19 +1,19 @@
-// What the programs that run stored cases read in a case: arrays of bytes and of commands, and an outcome's number. Places are indices
-// from 0.
+// What the programs that run stored cases read in a case: arrays of bytes and of commands, a ring state (document 01: ring record), and
+// an outcome's number. Places are indices from 0.
 ghost use mathlib.Core.Path.{_≡_};
 ghost use Prim.Native.Nat.{_+_, _≤_};
-ghost use lib.Dec.{eqb};
-ghost use lib.ListN.{length, getD};
+ghost use lib.ListN.{length};
 ghost use Rattle.model.specs.Values.{outcomeNumber};
-ghost use Rattle.model.specs.Reports.{places};
+ghost use Rattle.cases.specs.Cases.{bytesAt, boolsAt, healthAt, commandsAt, ringAt};
 use model::Commands;
 use model::Health;
 use model::Outcome;
+use model::Ring;
 
 // Twenty bytes of a case.
 pub fn bytes_at(case: &[u8], from: usize) -> [u8; 20]
     requires { ⌜ from + 20 ≤ length (now case) ⌝ }
-    ensures { λ r. ⌜ r ≡ places (λ i. getD (now (case .entry)) (from + i) 0) ⌝ }
+    ensures { λ r. ⌜ r ≡ bytesAt (now (case .entry)) from ⌝ }
 {
     let mut bytes = [0u8; 20];
     for i in 0..20 {
@@ -25,7 +25,7 @@ pub fn bytes_at(case: &[u8], from: usize) -> [u8; 20]
 // Twenty commands of a case: 1 is on or closed.
 pub fn bools_at(case: &[u8], from: usize) -> [bool; 20]
     requires { ⌜ from + 20 ≤ length (now case) ⌝ }
-    ensures { λ r. ⌜ r ≡ places (λ i. eqb (getD (now (case .entry)) (from + i) 0) 1) ⌝ }
+    ensures { λ r. ⌜ r ≡ boolsAt (now (case .entry)) from ⌝ }
 {
     let mut bools = [false; 20];
     for i in 0..20 {
@@ -37,9 +37,7 @@ pub fn bools_at(case: &[u8], from: usize) -> [bool; 20]
 // The health of every part, a byte each.
 pub fn health_at(case: &[u8], from: usize) -> Health
     requires { ⌜ from + 60 ≤ length (now case) ⌝ }
-    ensures generators { λ r. ⌜ r .generators ≡ places (λ i. getD (now (case .entry)) (from + i) 0) ⌝ }
-    ensures generator_breakers { λ r. ⌜ r .«generator_breakers» ≡ places (λ i. getD (now (case .entry)) (from + 20 + i) 0) ⌝ }
-    ensures bus_breakers { λ r. ⌜ r .«bus_breakers» ≡ places (λ i. getD (now (case .entry)) (from + 40 + i) 0) ⌝ }
+    ensures { λ r. ⌜ r ≡ healthAt (now (case .entry)) from ⌝ }
 {
     Health {
         generators: bytes_at(case, from),
@@ -51,14 +49,24 @@ pub fn health_at(case: &[u8], from: usize) -> Health
 // The command of every part, a byte each.
 pub fn commands_at(case: &[u8], from: usize) -> Commands
     requires { ⌜ from + 60 ≤ length (now case) ⌝ }
-    ensures generators { λ r. ⌜ r .generators ≡ places (λ i. eqb (getD (now (case .entry)) (from + i) 0) 1) ⌝ }
-    ensures generator_breakers { λ r. ⌜ r .«generator_breakers» ≡ places (λ i. eqb (getD (now (case .entry)) (from + 20 + i) 0) 1) ⌝ }
-    ensures bus_breakers { λ r. ⌜ r .«bus_breakers» ≡ places (λ i. eqb (getD (now (case .entry)) (from + 40 + i) 0) 1) ⌝ }
+    ensures { λ r. ⌜ r ≡ commandsAt (now (case .entry)) from ⌝ }
 {
     Commands {
         generators: bools_at(case, from),
         generator_breakers: bools_at(case, from + 20),
         bus_breakers: bools_at(case, from + 40),
+    }
+}
+
+// A ring state of n buses, its healths and its commands.
+pub fn ring_at(case: &[u8], n: u8, from: usize) -> Ring
+    requires { ⌜ from + 120 ≤ length (now case) ⌝ }
+    ensures { λ r. ⌜ r ≡ ringAt (now (case .entry)) n from ⌝ }
+{
+    Ring {
+        n,
+        health: health_at(case, from),
+        commands: commands_at(case, from + 60),
     }
 }
 

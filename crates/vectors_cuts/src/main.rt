@@ -2,7 +2,7 @@
 // tests/make_vectors.py for the layout of a case.
 ghost use Prim.Native.Nat.{_≤_};
 ghost use lib.ListN.{length};
-use model::Ring;
+use model::CutSetsAnswer;
 use tally::Tally;
 
 // A number of a case, low byte first.
@@ -10,18 +10,14 @@ fn number_of(low: u8, high: u8) -> usize {
     low as usize + 256 * (high as usize)
 }
 
-// The record of a case.
-fn ring_of(case: &[u8; 127]) -> Ring {
-    Ring {
-        n: case[0],
-        health: cases::health_at(case, 1),
-        commands: cases::commands_at(case, 61),
-    }
+// The case's call.
+fn answer_of(case: &[u8; 127], buffer: &mut [u8]) -> CutSetsAnswer {
+    cutsets::list(cases::ring_at(case, case[0], 1), case[121], buffer)
 }
 
 // Whether the whole answer, and the buffer after the call, are the simulation's.
 fn same_answer(case: &[u8; 127], buffer: &mut [u8], expected: &[u8]) -> bool {
-    let answer = cutsets::list(ring_of(case), case[121], buffer);
+    let answer = answer_of(case, buffer);
     let outcome = answer.outcome;
     let count = answer.count as usize;
     cases::outcome_number(outcome) == case[124]

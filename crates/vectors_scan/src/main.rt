@@ -1,0 +1,63 @@
+// Stored scans, with any counts, bad reports, damaged records and short buffers, held against the simulation's answers: see
+// tests/make_vectors.py for the layout of a case.
+ghost use Prim.Native.Nat.{_≤_};
+ghost use lib.ListN.{length};
+use model::Report;
+use model::RingAnswer;
+use model::Scan;
+use tally::Tally;
+
+// The 64 places of a case, three bytes each, also those past its count.
+fn reports_of(case: &[u8; 477]) -> [Report; 64] {
+    let mut reports = [answers::report_at(case, 122); 64];
+    for i in 0..64 {
+        reports[i] = answers::report_at(case, 122 + 3 * i);
+    }
+    reports
+}
+
+// The case's call.
+fn answer_of(case: &[u8; 477], buffer: &mut [u8]) -> RingAnswer {
+    let scan = Scan {
+        reports: reports_of(case),
+        count: case[121],
+    };
+    control::scan(cases::ring_at(case, case[0], 1), scan, buffer)
+}
+
+// Whether the whole answer, and the buffer after the call, are the simulation's.
+fn same_answer(case: &[u8; 477], buffer: &mut [u8], expected: &[u8]) -> bool {
+    answers::same(answer_of(case, buffer), case, 315) && check::same(buffer, expected)
+}
+
+// Whether a case agrees whose buffer has this room. The bytes that the buffer is to hold follow the case.
+fn compare(stored: i32, case: &[u8; 477], room: u8, buffer: &mut [u8], expected: &mut [u8]) -> bool
+    requires { ⌜ (255 ≤ length (now buffer)) × (255 ≤ length (now expected)) ⌝ }
+{
+    let end = room as usize;
+    let got = io::read_full(stored, &mut expected[..end]);
+    got == end && same_answer(case, &mut buffer[..end], &expected[..end])
+}
+
+// Whether a case agrees. A byte of it is the buffer's length, so that 255 places hold every buffer.
+fn agrees(stored: i32, case: &[u8; 477]) -> bool {
+    let mut buffer = [170u8; 255];
+    let mut expected = [0u8; 255];
+    compare(stored, case, case[314], &mut buffer, &mut expected)
+}
+
+fn main() {
+    let stored = tally::stored();
+    let mut tally = Tally {
+        cases: 0,
+        differ: 0,
+    };
+    for _ in 0..100000usize {
+        let mut case = [0u8; 477];
+        if io::read_full(stored, &mut case) < 477 {
+            break;
+        }
+        tally = tally::counted(tally, agrees(stored, &case));
+    }
+    tally::print(tally);
+}
