@@ -302,3 +302,79 @@ def plant_case(data):
     plant = Plant(size_of(lines))
     read_all(lines[1:], plant.take)
     return plant.case()
+
+
+# ---- scans: several reports at once
+
+MOST_SCANNED = 64       # the places of a scan
+MOST_CALLS = 9999       # a call's number has at most four digits
+BLANK_PLACE = bytes(3)
+
+
+class Calls:
+    """The calls of readable lines after `ring N`: a report by itself, or the reports between `scan` and `end`. A part has its number
+    here though the ring may lack it, so that the controller judges it."""
+
+    def __init__(self):
+        self.calls = []
+        self.scanning = False
+
+    def take(self, texts):
+        """A line: a report, `scan` or `end`."""
+        word = " ".join(texts).lower()
+        if word in ("scan", "end"):
+            if self.scanning == (word == "scan"):
+                raise Mistake("this scan has no `end`" if self.scanning else "no scan begins before this `end`")
+            self.scanning = not self.scanning
+            if self.scanning:
+                self.calls.append([])
+        else:
+            report = scanned(*report_in(texts, MOST))
+            if self.scanning:
+                self.calls[-1].append(report)
+            else:
+                self.calls.append([report])
+
+
+def scanned(code, word):
+    """A code and a word that a place of a scan can hold."""
+    if name_of(code) is None:
+        raise Mistake("code %d names no part, so that no scan can hold it" % code)
+    if word >= len(WORDS):
+        raise Mistake("word %d is none, so that no scan can hold it" % word)
+    return code, word
+
+
+def scans_of(data):
+    """The size and the calls of readable lines, or of a fault file, whose reports stand by themselves; None for a file that is
+    refused by its shape."""
+    lines = lines_in(data) if is_readable(data) else []
+    if lines and not is_bytes(lines):
+        size, calls = size_of(lines), Calls()
+        read_all(lines[1:], calls.take)
+        if calls.scanning:
+            raise Failure("the last scan has no `end`")
+        return size, calls.calls
+    file = fault_file(data)
+    if file_refusal(file)[0]:
+        return None
+    reports = [Line(i, ["code %d word %d" % report]) for i, report in enumerate(reports_of(file), start=1)]
+    return file[0], [[report] for report in read_all(reports, lambda texts: scanned(*report_in(texts[0].split(), MOST)))]
+
+
+def place_of(code, word):
+    """The three bytes of a place: the number of its part's kind, the part's own, and the word."""
+    kind = kind_of(name_of(code))
+    return bytes([KINDS.index(kind), code - FIRST_CODE[kind] + 1, word])
+
+
+def scan_cases(size, calls):
+    """The bytes that the program takes: the size, and for each call the count and 64 places, those past the count blank. A count
+    is a byte; one above 64 is refused, whatever it is."""
+    if len(calls) > MOST_CALLS:
+        raise Failure("there are at most %d calls, not %d" % (MOST_CALLS, len(calls)))
+    parts = [bytes([size])]
+    for reports in calls:
+        places = [place_of(*report) for report in reports[:MOST_SCANNED]]
+        parts.append(bytes([min(len(reports), 255)]) + b"".join(places) + BLANK_PLACE * (MOST_SCANNED - len(places)))
+    return b"".join(parts)
