@@ -113,10 +113,11 @@ module _ (ring : Ring) (good : badRecord ring ≡ false) (s : Scan) where
 
     -- the outcome of the reports' checks
     module _ (buffer : List ℕ) (o : Outcome) (checked : o ≡ outcomeOf reports-refusal) (a : RingAnswer) where
-      pub scan-advanced : o ≡ Served → (next : Ring) → next ≡ scanned → (after : List ℕ)
-          → Gives (sheetRefusal (length buffer) (nextSheet next)) next ring buffer a after
+      pub scan-advanced : o ≡ Served → (next kept : Ring) (after : List ℕ)
+          → Gives (sheetRefusal (length buffer) (nextSheet next)) next kept buffer a after → next ≡ scanned → kept ≡ ring
           → Gives (scanRefusal ring s (length buffer)) scanned ring buffer a after
-      scan-advanced e next is after gives = rw (scan-refusal (length buffer), served-zero checked e) (rw is at gives)
+      scan-advanced e next kept after gives is same =
+          rw (scan-refusal (length buffer), served-zero checked e) (rw (is, same) at gives)
 
       pub scan-refused : (j : ℕ) → o ≡ Refused j → a ≡ refusedAnswer j ring
           → Gives (scanRefusal ring s (length buffer)) scanned ring buffer a buffer
