@@ -1,5 +1,6 @@
 -- The reports of a scan, one after the other: a ring told each, and the first that is refused. Reports are counted from 0.
 use mathlib.Core.Path.{_≡_, sym, _∙_, ap}
+use mathlib.Core.Logic.{_≢_}
 use mathlib.Core.List.{List}
 use Prim.Native.Nat.{ℕ, suc, _+_, _≤_, _<_}
 use native.Mathlib.Numerals.{add-one}
@@ -41,6 +42,12 @@ module _ (ring : Ring) (l : List Report) (i : ℕ) where
 
 -- ---- the first report that is refused
 
+-- the outcome that has the number of a refusal is that refusal
+numbered : (a : Outcome) (k : ℕ) → k ≢ 0 → outcomeNumber a ≡ k → a ≡ outcomeOf k
+unfolding outcomeOf
+numbered Served k h e = absurd (h (sym e))
+numbered (Refused j) k h e = rw (ne-eqb k 0 h) (ap Refused e)
+
 -- the reports before the i-th are not refused: of the first k of the places l, those from the i-th on decide
 unfoldable pub DecidedFrom : ℕ → List Report → ℕ → ℕ → Type 0
 DecidedFrom n l k i = firstRefusal n (take k l) ≡ firstRefusal n (drop i (take k l))
@@ -78,8 +85,9 @@ module _ (n : ℕ) (l : List Report) (k i : ℕ) where
     unfolding DecidedFrom
     report-good e = then-rest ∙ rw (served-zero own-outcome e, add-one)
 
-    pub report-bad : (number : ℕ) → o ≡ Refused number → Checked n l k (Refused number)
-    report-bad number e =
+    -- a is the answer to a report that is refused: it has its number
+    pub report-bad : (number : ℕ) → o ≡ Refused number → (a : Outcome) → outcomeNumber a ≡ number → Checked n l k a
+    report-bad number e a same =
         let z = refused-number own-outcome number e in
         let first : firstRefusal n (take k l) ≡ own = then-rest ∙ rw (ne-eqb own 0 (z .1)) in
-        outcome-is _ (Refused number) (sym e ∙ own-outcome ∙ ap outcomeOf (sym first))
+        outcome-is _ a (numbered a own (z .1) (same ∙ sym (z .0)) ∙ ap outcomeOf (sym first))

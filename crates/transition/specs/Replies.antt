@@ -48,9 +48,10 @@ module _ (n : ℕ) (big : smallest ≤ n) (small : n ≤ largest) where
 module _ (k reports : ℕ) (ring all-told : Ring) (buffer : List ℕ)
     (number : k ≡ orElse reports (sheetRefusal (length buffer) (nextSheet all-told))) (o : Outcome) (checked : o ≡ outcomeOf reports)
     (a : RingAnswer) where
-  reports-good : o ≡ Served → (next : Ring) → next ≡ all-told → (after : List ℕ)
-      → Gives (sheetRefusal (length buffer) (nextSheet next)) next ring buffer a after → Gives k all-told ring buffer a after
-  reports-good e next is after gives = rw (number, served-zero checked e) (rw is at gives)
+  reports-good : o ≡ Served → (next kept : Ring) (after : List ℕ)
+      → Gives (sheetRefusal (length buffer) (nextSheet next)) next kept buffer a after → next ≡ all-told → kept ≡ ring
+      → Gives k all-told ring buffer a after
+  reports-good e next kept after gives is same = rw (number, served-zero checked e) (rw (is, same) at gives)
 
   reports-bad : (j : ℕ) → o ≡ Refused j → a ≡ refusedAnswer j ring → Gives k all-told ring buffer a buffer
   reports-bad j e is =
@@ -61,8 +62,8 @@ module _ (k reports : ℕ) (ring all-told : Ring) (buffer : List ℕ)
 -- the step of a good record
 module _ (ring : Ring) (good : badRecord ring ≡ false) (r : Report) (buffer : List ℕ) (o : Outcome)
     (checked : o ≡ outcomeOf (firstMet (reportConditions (ring .n) r))) (a : RingAnswer) where
-  pub step-advanced : o ≡ Served → (next : Ring) → next ≡ told ring r → (after : List ℕ)
-      → Gives (sheetRefusal (length buffer) (nextSheet next)) next ring buffer a after
+  pub step-advanced : o ≡ Served → (next kept : Ring) (after : List ℕ)
+      → Gives (sheetRefusal (length buffer) (nextSheet next)) next kept buffer a after → next ≡ told ring r → kept ≡ ring
       → Gives (stepRefusal ring r (length buffer)) (told ring r) ring buffer a after
   step-advanced = reports-good _ _ ring (told ring r) buffer (step-refusal ring good r (length buffer)) o checked a
 
@@ -95,8 +96,8 @@ module _ (ring : Ring) (good : badRecord ring ≡ false) (s : Scan) where
     unfolding firstMet countAbove
     number-is = scan-refusal ring good s (length buffer) ∙ rw (le-ltb 64 (s .count) few)
 
-    pub scan-advanced : o ≡ Served → (next : Ring) → next ≡ scanned → (after : List ℕ)
-        → Gives (sheetRefusal (length buffer) (nextSheet next)) next ring buffer a after
+    pub scan-advanced : o ≡ Served → (next kept : Ring) (after : List ℕ)
+        → Gives (sheetRefusal (length buffer) (nextSheet next)) next kept buffer a after → next ≡ scanned → kept ≡ ring
         → Gives (scanRefusal ring s (length buffer)) scanned ring buffer a after
     scan-advanced = reports-good _ _ ring scanned buffer number-is o checked a
 

@@ -94,7 +94,10 @@ pub fn scan(ring: Ring, scan: Scan, buffer: &mut [u8]) -> RingAnswer
     }
     // "8 is checked last, for the scan's own sheet": the reports are checked before the plan.
     match scans::check(ring.n, scan) {
-        Outcome::Served => advance(scans::told(ring, scan), ring, buffer),
+        Outcome::Served => {
+            let told = scans::told(ring, scan);
+            advance(told, ring, buffer)
+        }
         Outcome::Refused(number) => rings::refused(number, ring),
     }
 }

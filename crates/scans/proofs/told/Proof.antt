@@ -9,27 +9,24 @@ use Rattle.scans.proofs.told.Statement.{statement}
 use Rattle.scans.proofs.told.Tie as tie
 
 abbrev Inv-loop : tie.InvT-loop
-Inv-loop scan end next₀ i₀ next i = (next ≡ toldFirst next₀ (scan .reports) i) × (i ≤ scan .count)
+Inv-loop scan end next₀ i₀ next i =
+    (next ≡ toldFirst next₀ (scan .reports) i) × (i ≤ scan .count) × (scan .count ≤ length (scan .reports))
 
 abbrev μ-loop : tie.MeasureT-loop
 μ-loop scan end next₀ i₀ next i = end - i
 
 -- a scan has 64 places
-full : (s : tie.Start Inv-loop μ-loop) → length (s .args .t2 .reports) ≡ 64
-full s = simp length-map at (s .good .1 .0 .1 .1 .0 .1 .0 .1)
+loop-holds : tie.Need-loop-holds Inv-loop μ-loop
+loop-holds c = (told-none _ _ _ (omega arith), omega arith, omega (arith, simp length-map at (c .good .1 .0 .1 .1 .0 .1 .0 .1)))
 
 loop-again : tie.Need-loop-again Inv-loop μ-loop
 loop-again c =
-    let l = c .before .before .before in
-    let s = l .before in
-    let told =
-    told-more _ (s .args .t2 .reports) (l .loop .i) _ _ (omega arith) (omega (arith, s .pre, full s)) (l .loop .inv .0) (c .told .ensures) in
-    (told, omega arith)
+    let l = c .before .before .before .loop in
+    let told = told-more _ _ (l .i) _ _ (omega arith) (omega arith) (l .inv .0) (c .told .ensures) in
+    (told, omega arith, omega arith)
 
 returns : tie.Need-returns Inv-loop μ-loop
-returns c =
-    let s = c .before .before .args .t2 in
-    told-every _ (s .reports) (c .before .loop .i) (s .count) (omega arith) (c .before .loop .inv .0)
+returns c = let l = c .before in told-every _ _ (l .loop .i) (l .before .args .t2 .count) (omega arith) (l .loop .inv .0)
 
 pub told-spec : {M : Type 1} → statement M
 told-spec =
@@ -38,9 +35,9 @@ told-spec =
     Inv-loop
     μ-loop
     (λ c. search needs)
-    (λ c. (told-none _ _ _ (omega arith), search needs))
-    (λ c. omega (arith, c .before .before .pre))
-    (λ c. omega (arith, c .before .before .pre))
+    loop-holds
+    (λ c. omega arith)
+    (λ c. omega arith)
     (λ c κs. search needs)
     (λ c. search needs)
     (λ c. search needs)

@@ -1,4 +1,5 @@
 -- `transition::scan` meets its contract: refused by 11 or by its reports' checks, or the ring told them all taken to its commands.
+use mathlib.Core.Path.{refl}
 use native.Mathlib.Omega.{arith}
 use denote.Ref.{now}
 use borrow.Author.Needs.{needs}
@@ -33,7 +34,7 @@ returns-2 c =
     let o = t .before .before .before in
     let s = o .before .before .before .before in
     scan-advanced _ (s .pre) (s .args .scan) (omega (arith, facts)) (now (s .args .buffer)) _ (o .check .ensures .0) _
-    (t .before .enum-told .given .1) _ (t .told .ensures) _ (d .advance .ensures)
+    (t .before .enum-told .given .1) _ _ _ (d .advance .ensures) (t .told .ensures) refl
 
 returns-3 : tie.Need-returns-3
 unfolding scanReply

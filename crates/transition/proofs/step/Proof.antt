@@ -1,5 +1,5 @@
 -- `transition::step` meets its contract: refused by its report's checks, or the told ring taken to its commands.
-use mathlib.Core.Path.{ap}
+use mathlib.Core.Path.{refl, ap}
 use native.Mathlib.Omega.{arith}
 use denote.Ref.{now}
 use borrow.Author.Needs.{needs}
@@ -24,8 +24,8 @@ returns c =
     let t = d .before .before in
     let o = t .before .before .before in
     let s = o .before .before in
-    step-advanced _ (s .pre) _ (now (s .args .buffer)) _ (o .check-report .ensures .0) _ (t .before .enum-told .given .1) _
-    (t .told .ensures) _ (d .advance .ensures)
+    step-advanced _ (s .pre) _ (now (s .args .buffer)) _ (o .check-report .ensures .0) _ (t .before .enum-told .given .1) _ _ _
+    (d .advance .ensures) (t .told .ensures) refl
 
 returns-2 : tie.Need-returns-2
 unfolding stepReply
