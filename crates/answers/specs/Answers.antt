@@ -2,16 +2,19 @@
 use mathlib.Core.Path.{_≡_, refl, sym, _∙_, ap}
 use mathlib.Core.Bool.{Bool, true, false, not, Bool·beq}
 use mathlib.Core.List.{List}
-use Prim.Native.Nat.{ℕ, _+_, _*_, _<_}
+use mathlib.Core.Logic.{_≢_, _⊎_, inl, inr}
+use Prim.Native.Nat.{ℕ, _+_, _*_, _<_, _≤_}
 use native.Mathlib.Omega.{arith}
-use lib.ListN.{length, getD}
-use lib.Seq.{ext-getD}
+use lib.ListN.{length, getD, set, length-set}
+use lib.Seq.{ext-getD, getD-set-same, getD-set-other}
 use borrow.Author.Count.{below-more}
 use Rattle.model.specs.declared.Part.{Part}
 use Rattle.model.specs.declared.Part.the-variants.{Generator, GeneratorBreaker, BusBreaker}
 use Rattle.model.specs.declared.Word.{Word}
+use Rattle.model.specs.declared.Word.the-variants.{Fit}
 use Rattle.model.specs.declared.WordAnswer.the-variants.{Named}
 use Rattle.model.specs.declared.Report.{Report}
+use Rattle.model.specs.declared.Scan.{Scan}
 use Rattle.model.specs.declared.Choice.the-variants.{Dark}
 use Rattle.model.specs.declared.BusChoice.{BusChoice}
 use Rattle.model.specs.declared.Commands.{Commands}
@@ -20,7 +23,7 @@ use Rattle.model.specs.Values.{number, firstCode, wordNumber, choiceSource, cho
 use Rattle.model.specs.Plant.{largest}
 use Rattle.model.specs.Reports.{wordNamed}
 use Rattle.model.specs.Answers.{wordAnswer}
-use Rattle.model.specs.Laws.Tests.{contra}
+use Rattle.model.specs.Laws.Tests.{contra, dec-eq}
 use Rattle.words.specs.Words.{number-names}
 use Rattle.cases.specs.Cases.{ringAt}
 
@@ -33,6 +36,12 @@ pub record PartIn (i k : ℕ) (p : Part) : Type 0 where
 pub record ReportIn (case : List ℕ) (from : ℕ) (r : Report) : Type 0 where
   pub part : PartIn (getD case from 0) (getD case (from + 1) 0) (r .part)
   pub word : wordNumber (r .word) ≡ getD case (from + 2) 0
+
+-- a scan stands from an index on: its count, then its 64 places of three bytes, also those past the count
+pub record ScanIn (case : List ℕ) (from : ℕ) (s : Scan) : Type 0 where
+  pub count : s .count ≡ getD case from 0
+  pub full : length (s .reports) ≡ 64
+  pub reports : (i : ℕ) → i < 64 → (d : Report) → ReportIn case (from + 1 + 3 * i) (getD (s .reports) i d)
 
 -- the choice of a bus has the letter l and the source g
 pub record ChoiceIn (l g : ℕ) (bus : BusChoice) : Type 0 where
@@ -149,3 +158,40 @@ module _ (a b : Commands) where
       (s .generator-breakers) in
       let g = alike-all (a .«bus_breakers») (b .«bus_breakers») (p .bus-breakers) (q .bus-breakers) (s .bus-breakers) in
       λ i. record { generators = e i; «generator_breakers» = f i; «bus_breakers» = g i }
+
+-- ---- the places of a scan
+
+-- the array ls has 64 places, and below place i those of every scan that stands from an index on
+pub record Placed (case : List ℕ) (from i : ℕ) (ls : List Report) : Type 0 where
+  pub sized : length ls ≡ 64
+  pub alike : (s : Scan) → ScanIn case from s → (k : ℕ) → k < i → (d : Report) → getD ls k d ≡ getD (s .reports) k d
+
+module _ (case : List ℕ) (from i : ℕ) (ls : List Report) where
+  pub placed-none : length ls ≡ 64 → i ≡ 0 → Placed case from i ls
+  placed-none e z = record { sized = e; alike = λ s h k l d. absurd (omega arith) }
+
+  -- one place more: j is the index that the code stores at, at the index that it reads from
+  pub placed-more : (j at : ℕ) (r : Report) → j ≡ i → at ≡ from + 1 + 3 * i → i < 64
+      → ((x : Report) → ReportIn case at x → r ≡ x) → Placed case from i ls → Placed case from (i + 1) (set ls j r)
+  placed-more j at r e f h is p = record { sized = rw length-set (p .sized); alike = alike }
+    where
+      alike : (s : Scan) → ScanIn case from s → (k : ℕ) → k < i + 1 → (d : Report) → getD (set ls j r) k d ≡ getD (s .reports) k d
+      alike s g k l d = go (dec-eq k j)
+        where
+          below : (k ≡ i) ⊎ (k ≢ i) → k ≢ j → k < i
+          below (inl y) z = absurd (z (y ∙ sym e))
+          below (inr y) z = omega arith
+
+          go : (k ≡ j) ⊎ (k ≢ j) → getD (set ls j r) k d ≡ getD (s .reports) k d
+          go (inl z) =
+              let here : ReportIn case at (getD (s .reports) k d) = rw (f, ← e, ← z) (g .reports k (omega arith) d) in
+              let stored : getD (set ls j r) k d ≡ r = rw z (getD-set-same ls j r d (omega (arith, p .sized))) in
+              stored ∙ is _ here
+          go (inr z) = let l₁ : k < i = below (dec-eq k i) z in getD-set-other ls j k r d z ∙ p .alike s g k l₁ d
+
+  -- all places
+  pub placed-all : 64 ≤ i → Placed case from i ls → (s : Scan) → ScanIn case from s → ls ≡ s .reports
+  placed-all h p s g = ext-list (s .reports) (p .sized ∙ sym (g .full)) (λ k l d. p .alike s g k (omega (arith, p .sized)) d)
+    where
+      ext-list : (ys : List Report) → length ls ≡ length ys → ((k : ℕ) → k < length ls → (d : Report) → getD ls k d ≡ getD ys k d) → ls ≡ ys
+      ext-list ys e same = ext-getD (record { part = Generator 0; word = Fit }) ls ys e (λ k l. same k l _)

@@ -7,8 +7,9 @@ ghost use lib.ListN.{length};
 ghost use Rattle.model.specs.declared.Part.{Part};
 ghost use Rattle.model.specs.declared.Word.{Word};
 ghost use Rattle.model.specs.declared.Report.{Report};
+ghost use Rattle.model.specs.declared.Scan.{Scan};
 ghost use Rattle.model.specs.Values.{wordNumber};
-ghost use Rattle.answers.specs.Answers.{PartIn, ReportIn, ChoiceIn, ChoicesIn, AnswerIn};
+ghost use Rattle.answers.specs.Answers.{PartIn, ReportIn, ScanIn, ChoiceIn, ChoicesIn, AnswerIn};
 use model::BusChoice;
 use model::Choice;
 use model::Commands;
@@ -17,6 +18,7 @@ use model::Part;
 use model::Report;
 use model::Ring;
 use model::RingAnswer;
+use model::Scan;
 use model::Word;
 use model::WordAnswer;
 
@@ -50,6 +52,29 @@ pub fn report_at(case: &[u8], from: usize) -> Report
     Report {
         part: part_of(case[from], case[from + 1]),
         word: word_of(case[from + 2]),
+    }
+}
+
+// The 64 places of a scan, three bytes each, also those past its count.
+fn reports_at(case: &[u8], from: usize) -> [Report; 64]
+    requires { ⌜ from + 193 ≤ length (now case) ⌝ }
+    ensures { λ r. ⌜ ((s : Scan) → ScanIn (now (case .entry)) from s → r ≡ s .reports) ⌝ }
+{
+    let mut reports = [report_at(case, from + 1); 64];
+    for i in 0..64 {
+        reports[i] = report_at(case, from + 1 + 3 * i);
+    }
+    reports
+}
+
+// The scan that stands from an index on: its count, then its places.
+pub fn scan_at(case: &[u8], from: usize) -> Scan
+    requires { ⌜ from + 193 ≤ length (now case) ⌝ }
+    ensures { λ r. ⌜ ((s : Scan) → ScanIn (now (case .entry)) from s → r ≡ s) ⌝ }
+{
+    Scan {
+        reports: reports_at(case, from),
+        count: case[from],
     }
 }
 

@@ -2,27 +2,13 @@
 // tests/make_vectors.py for the layout of a case.
 ghost use Prim.Native.Nat.{_≤_};
 ghost use lib.ListN.{length};
-use model::Report;
 use model::RingAnswer;
-use model::Scan;
 use tally::Tally;
-
-// The 64 places of a case, three bytes each, also those past its count.
-fn reports_of(case: &[u8; 477]) -> [Report; 64] {
-    let mut reports = [answers::report_at(case, 122); 64];
-    for i in 0..64 {
-        reports[i] = answers::report_at(case, 122 + 3 * i);
-    }
-    reports
-}
 
 // The case's call.
 fn answer_of(case: &[u8; 477], buffer: &mut [u8]) -> RingAnswer {
-    let scan = Scan {
-        reports: reports_of(case),
-        count: case[121],
-    };
-    control::scan(cases::ring_at(case, case[0], 1), scan, buffer)
+    let ring = cases::ring_at(case, case[0], 1);
+    control::scan(ring, answers::scan_at(case, 121), buffer)
 }
 
 // Whether the whole answer, and the buffer after the call, are the simulation's.
