@@ -294,7 +294,7 @@ def report_on(kind, number, word):
 
 
 def any_report(rng):
-    """A report on any part, with any number, most often a bad one."""
+    """A report on any part, with any number: most are bad."""
     return report_on(rng.choice(KINDS), rng.choice([0, 1, 2, 3, rng.randrange(256)]), rng.randrange(4))
 
 
@@ -333,8 +333,10 @@ def scan_length(record, reports):
 
 def stepped_through(record, reports):
     """The records of the reports' single steps, the first before them all and the last behind them."""
-    step = lambda before, report: rs.step(before, report, bytearray(rs.LONGEST_SHEET)).record
-    return list(itertools.accumulate(reports, step, initial=record))
+    records = [record]
+    for report in reports:
+        records.append(rs.step(records[-1], report, bytearray(rs.LONGEST_SHEET)).record)
+    return records
 
 
 def longest_step(record, reports):
@@ -354,7 +356,7 @@ def counted_scans(rng):
         record = rs.record_for(n, worn_health(rng, n))
         for count in (0, 1, 2, 63, 64):
             yield from with_rooms(record, good_reports(rng, n, count))
-        for count in (65, 255):
+        for count in (65, 128, 255):
             yield record, good_reports(rng, n, 64), count, rs.LONGEST_SHEET
             yield record, bad_reports(rng, n), count, 0
 
@@ -386,30 +388,30 @@ def twice_bad_scans(rng):
 def settled_scans():
     """Scans that Note 2 of document 02 speaks of, or that its readers may stumble over."""
     for n in (3, 5, 20):
-        parts = [rs.part_of_code(code) for code in rs.codes_of_ring(n)]
+        started, parts = rs.record_for(n), [rs.part_of_code(code) for code in rs.codes_of_ring(n)]
         breakers = [part for part in parts if part.kind != "G"]
         stuck = rs.record_for(n, {part.code: 2 + part.number % 2 for part in breakers})
         for record, reports in (
-                (rs.record_for(n), [("BB", 2, 2), ("BB", 2, 3), ("BB", 2, 2)]),                   # the last word decides
-                (rs.record_for(n), [("BB", 2, 2), ("GB", 1, 3), ("BB", 2, 3), ("GB", 1, 2)]),
-                (rs.record_for(n), [("BB", 2, 2)] * 64),
-                (rs.record_for(n), [("BB", 2, 3), ("BB", 2, 0)]),                                 # a word 3, and its return
-                (rs.record_for(n), [("BB", 1, 3), ("BB", 2, 2), ("BB", 1, 0)]),
-                (rs.record_for(n), [("BB", 1, 3), ("GB", 3, 3)]),
-                (rs.record_for(n), [("BB", 2, 2), ("BB", 2, 0)]),                                 # one that undoes itself
-                (rs.record_for(n), [("BB", 2, 2), ("GB", 2, 2), ("GB", 2, 0), ("BB", 2, 0)] * 16),
-                (rs.record_for(n), [("G", 1, 1), ("G", 1, 1)]),                                   # a generator goes off twice
-                (rs.record_for(n), [("G", k, 1) for k in range(1, n + 1)]),                       # every bus dark
-                (rs.record_for(n), [(part.kind, part.number, 1 if part.kind == "G" else 2) for part in parts]),
-                (rs.record_for(n), [("BB", k, 3) for k in range(1, n + 1)]),                      # all buses joined
-                (stuck, []), (stuck, [(part.kind, part.number, 0) for part in breakers]),         # all breakers come back
-                (rs.record_for(n), [])):                                                          # "two empty waves"
+                (started, [("BB", 2, 2), ("BB", 2, 3), ("BB", 2, 2)]),                     # the last word decides
+                (started, [("BB", 2, 2), ("GB", 1, 3), ("BB", 2, 3), ("GB", 1, 2)]),
+                (started, [("BB", 2, 2)] * 64),
+                (started, [("BB", 2, 3), ("BB", 2, 0)]),                                   # a word 3, and its return
+                (started, [("BB", 1, 3), ("BB", 2, 2), ("BB", 1, 0)]),
+                (started, [("BB", 1, 3), ("GB", 3, 3)]),
+                (started, [("BB", 2, 2), ("BB", 2, 0)]),                                   # one that undoes itself
+                (started, [("BB", 2, 2), ("GB", 2, 2), ("GB", 2, 0), ("BB", 2, 0)] * 16),
+                (started, [("G", 1, 1), ("G", 1, 1)]),                                     # a generator goes off twice
+                (started, [("G", k, 1) for k in range(1, n + 1)]),                         # every bus dark
+                (started, [(part.kind, part.number, 1 if part.kind == "G" else 2) for part in parts]),
+                (started, [("BB", k, 3) for k in range(1, n + 1)]),                        # all buses joined
+                (stuck, []), (stuck, [(part.kind, part.number, 0) for part in breakers]),  # all breakers come back
+                (started, [])):                                                            # "two empty waves"
             yield from with_rooms(record, [report_on(*report) for report in reports])
-        yield from ((rs.record_for(n), [], 0, room) for room in (0, 3, 255))
+        yield from ((started, [], 0, room) for room in (0, 3, 255))
 
 
 def own_sheet_scans(rng):
-    """"8 is checked last, for the scan's own sheet": buffers too short for a single step, but not for the scan, and the other way."""
+    """Buffers too short for a single step's sheet, but not for the scan's own, for which alone 8 is checked, and the other way."""
     shorter, longer = [], []
     while min(len(shorter), len(longer)) < 24:
         n = rng.choice(RINGS)

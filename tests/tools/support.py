@@ -89,6 +89,55 @@ def stored_cuts():
         at = case.end
 
 
+def record_of(data):
+    """A record of a stored case."""
+    health, orders = dict(zip(ringsim.ALL_CODES, data[1:61])), dict(zip(ringsim.ALL_CODES, map(bool, data[61:121])))
+    return ringsim.Record(data[0], health, orders)
+
+
+def report_of(data):
+    """A report of a stored case."""
+    return ringsim.Report(ringsim.Part(make_vectors.KINDS[data[0]], data[1]), data[2])
+
+
+class ScanCase:
+    """A stored case of a scan."""
+
+    def __init__(self, data):
+        self.record, self.count = record_of(data[:121]), data[121]
+        self.places = [report_of(data[at:at + 3]) for at in range(122, 314, 3)]
+        self.reports = self.places[:self.count]
+        self.room, self.number, self.after = data[314], data[315], record_of(data[316:437])
+        self.choices, self.buffer = data[437:477], data[477:]
+
+    def flaws(self):
+        """The refusal of each place's report by itself, 0 where it is good."""
+        return [ringsim.report_refusal(self.record.n, report, ringsim.BASE) for report in self.places]
+
+    def sheet(self):
+        """The sheet of a served case, and the bytes behind it."""
+        end = 2 + 2 * (self.buffer[0] + self.buffer[1])
+        return self.buffer[:end], self.buffer[end:]
+
+
+# Of the programs whose cases end in the bytes of a buffer: the bytes before those, the first that is expected, and the room of the buffer.
+LAYOUTS = {
+    "vectors_step": (288, 126, lambda case: case[125]),
+    "vectors_scan": (477, 315, lambda case: case[314]),
+    "vectors_cuts": (127, 124, lambda case: int.from_bytes(case[122:124], "little")),
+}
+
+
+def stored_cases(name):
+    """The stored cases of a program, each with its bytes."""
+    data, at = read("crates", name, "data", "cases"), 0
+    size, _, room = LAYOUTS[name]
+    while at < len(data):
+        end = at + size + room(data[at:at + size])
+        yield data[at:end]
+        at = end
+
+
 class ToolCase(unittest.TestCase):
     """Tests of a command: each has a status, and never a traceback."""
 

@@ -6,7 +6,7 @@ import tempfile
 import time
 import unittest
 
-from support import make_vectors, path, program, read, run, stored_runs, tool
+from support import LAYOUTS, make_vectors, path, program, read, run, stored_cases, stored_runs, tool
 
 
 class Programs(unittest.TestCase):
@@ -51,12 +51,32 @@ class Programs(unittest.TestCase):
         with tempfile.TemporaryDirectory() as folder:
             made = run([sys.executable, "-B", path("tests", "make_vectors.py"), "--seed", "14", "--out", folder])
             self.assertEqual(made.status, 0, made.said)
-            for name in ("vectors", "vectors_plant", "vectors_step", "vectors_cuts"):
+            for name in ("vectors", "vectors_plant", "vectors_step", "vectors_cuts", "vectors_scan"):
                 if os.access(path("target", "bin", name), os.X_OK):
                     with self.subTest(name):
                         answer = program(name, cwd=os.path.join(folder, name))
                         self.assertRegex(answer.out.decode(), "^[0-9]+ cases, 0 differ\n$")
                         self.assertNotEqual(read(folder, name, "cases"), read("crates", name, "data", "cases"))
+
+    def tally(self, name, cases):
+        """What a program of stored cases prints for these."""
+        with tempfile.TemporaryDirectory() as folder:
+            make_vectors.write(os.path.join(folder, "cases"), b"".join(cases))
+            return program(name, cwd=folder).out
+
+    def test_every_expected_byte_is_compared(self):
+        """Some stored cases, and each of them again with one byte of what is expected changed, a byte at a time."""
+        for name, (_, expected, _) in LAYOUTS.items():
+            with self.subTest(name):
+                some = list(stored_cases(name))[::40]
+                changed = [case[:at] + bytes([case[at] ^ 1]) + case[at + 1:] for case in some for at in range(expected, len(case))]
+                self.assertEqual(self.tally(name, some), b"%d cases, 0 differ\n" % len(some))
+                self.assertEqual(self.tally(name, changed), b"%d cases, %d differ\n" % (len(changed), len(changed)))
+
+    def test_a_case_that_breaks_off_differs(self):
+        for name, (size, _, _) in LAYOUTS.items():
+            case = next(case for case in stored_cases(name) if len(case) > size)
+            self.assertEqual(self.tally(name, [case, case[:-1]]), b"2 cases, 1 differ\n", name)
 
     def test_seed_and_folder_go_together(self):
         answer = run([sys.executable, "-B", path("tests", "make_vectors.py"), "--seed", "14"])
