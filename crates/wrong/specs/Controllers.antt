@@ -393,6 +393,11 @@ beforeLast ring [] = ring
 beforeLast ring (r ∷ []) = ring
 beforeLast ring (r ∷ q ∷ rs) = beforeLast (withPlan (told ring r)) (q ∷ rs)
 
+-- the reports before the first bad one
+unfoldable pub goodFront : ℕ → List Report → List Report
+goodFront n [] = []
+goodFront n (r ∷ rs) = let rest = goodFront n rs in cond (eqb (firstMet (reportConditions n r)) 0) (r ∷ rest) []
+
 -- takes only the last word of a scan
 unfoldable pub takesLastWord : Controller
 takesLastWord = scanServingBy (λ s. lastOf (scanReports s))
@@ -409,6 +414,12 @@ takesWordsBackwards = scanServingBy (λ s. backwards (scanReports s))
 
 unfoldable pub readsPastCount : Controller
 readsPastCount = scanServingBy (λ s. take 3 (s .reports))
+
+-- serves the reports before the bad one
+unfoldable pub servesBeforeBad : Controller
+servesBeforeBad =
+    scanSpoilt (λ ring s buffer reply.
+    whenRefused (λ right. servedReply (toldAll ring (goodFront (ring .n) (scanReports s))) buffer) reply)
 
 -- serves every scan; refuses one of 64 reports; refuses by the last bad report; asks 8 of the first step
 unfoldable pub servesScans : Controller
@@ -542,7 +553,7 @@ wrongScanRefusals =
     ∷ row servesScans claim.always (scanning (scanOf (breaker2Open ∷ breaker1Off ∷ breaker2Fit ∷ [])))
     ∷ row servesScans claim.always (calling nothing (scan (scanOf (breaker2Open ∷ [])) (replicate 5 0)))
     ∷ row servesScans claim.always (calling nothing (scan (scanOf []) (replicate 1 0)))
-    ∷ row (scanTelling (λ s. take 1 (s .reports))) claim.always (scanning (scanOf (breaker2Open ∷ generator4Off ∷ [])))
+    ∷ row servesBeforeBad claim.always (scanning (scanOf (breaker2Open ∷ generator4Off ∷ [])))
     ∷ row refuses64 claim.only (scanning (scanOf (replicate 64 breaker2Open)))
     ∷ row refusesByLast claim.always (scanning (scanOf (breaker1Off ∷ generator4Off ∷ [])))
     ∷ row refusesByLast claim.only (scanning (scanOf (breaker1Off ∷ generator4Off ∷ [])))
@@ -665,7 +676,7 @@ unfolding below keep first anyOf allOf partCode samePart parts healthOfKind next
     wrongs2 refuted2 clashesNowhere countAbove sheetRefusal toldAll firstRefusal scanRefusal scanReply callNumber designScan scanSpoilt
     scanOf countedAs calling scanning scanRefusing scanServing scanWrites scanTelling scanServingBy lastOf backwards beforeLast
     takesLastWord sendsLastSheet takesWordsBackwards readsPastCount servesScans refuses64 refusesByLast asksFirstStep wrongScanRefusals
-    wrongScans
+    wrongScans goodFront servesBeforeBad
 computed = record {
   refuted-3 = refl;
   refuted-2 = refl;

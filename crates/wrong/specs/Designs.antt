@@ -144,8 +144,7 @@ right-step ring r buffer = rw (right-bad ring, right-sheet (told ring r), right-
 
 right-scan : (ring : Ring) (s : Scan) (buffer : List ℕ) → designScan right ring s buffer ≡ scanReply ring s buffer
 unfolding designScan scanReply scanRefusal
-right-scan ring s buffer =
-    rw (right-bad ring, right-sheet (toldAll ring (scanReports s)), right-served (toldAll ring (scanReports s)) buffer)
+right-scan ring s buffer = rw (right-bad, right-sheet, right-served)
 
 -- the right design is the controller
 pub right-is : designController right ≡ controller
