@@ -99,7 +99,7 @@ busValues n h c b =
 unfoldable pub bufferAfter : List ℕ → List ℕ → List ℕ
 bufferAfter bytes buffer = cond (eqb (sheetRefusal (length buffer) bytes) 0) (written bytes buffer) buffer
 
--- what a start or a step gives: its answer, and the lent buffer after the call
+-- what a start, a step or a scan gives: its answer, and the lent buffer after the call
 pub record Reply : Type 0 where
   pub answer : RingAnswer
   pub buffer : List ℕ

@@ -31,7 +31,6 @@ use Rattle.model.specs.Choosing.{commands, choices}
 use Rattle.model.specs.Sheet.{opening, closing, sheet}
 use Rattle.model.specs.Reports.{partNamed, healthOf, commandsOf, blankRing}
 use Rattle.model.specs.Answers.{Reply, allDark}
-use Rattle.model.specs.Scans.{scanReports}
 
 -- a controller: what it gives at a start, and at a step or a scan with the record handed in
 pub record Controller : Type 0 where
@@ -50,7 +49,7 @@ pub record PlantState : Type 0 where
 abbrev pub freshPlant : PlantState
 freshPlant = record { health = λ p. 0; last = λ p. false }
 
--- the health that a word brings about: said here anew, as `wordRefusal` is below, so that the plant does not take its rules from
+-- the health that a word brings about: said here anew, as `words` and `wordRefusal` are below, so that the plant does not take its rules from
 -- what the controller is proved to follow; that they agree is proved
 abbrev pub effect : Word → ℕ
 effect Fit = 0
@@ -151,10 +150,10 @@ abbrev pub replyTo : Controller → Ring → Call → Reply
 replyTo c ring (step r buffer) = c .step ring r buffer
 replyTo c ring (scan s buffer) = c .scan ring s buffer
 
--- the words that a served call brings; of a scan those up to its count
+-- the words that a served call brings; of a scan "places past the count are not read"
 abbrev pub words : Call → List Report
 words (step r buffer) = r ∷ []
-words (scan s buffer) = scanReports s
+words (scan s buffer) = take (s .count) (s .reports)
 
 -- how many reports a call is said to bring
 abbrev pub count : Call → ℕ

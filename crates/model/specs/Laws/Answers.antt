@@ -1,4 +1,4 @@
--- Laws of the answers to a start or a step: served or refused, with the number of the outcome and the values of the choices.
+-- Laws of the answers to a start, a step or a scan: served or refused, with the number of the outcome and the values of the choices.
 use mathlib.Core.Path.{_≡_, refl}
 use mathlib.Core.List.{List}
 use mathlib.Core.Logic.{_≢_}
