@@ -187,14 +187,15 @@ module _ (ring : Ring) (good : badRecord ring ≡ false) (s : Scan) (buffer : Li
     pub scan-named : AllNamed (ring .n) (a .choices) × SheetBytes after
     scan-named = (rw (told-size ring (scanReports s)) at (scan-given .named), scan-given .sheet)
 
-    pub scan-served : (i : ℕ) (before out : List ℕ) (size : ℕ)
-        → out ≡ written (sheetLine i (ring .n) (a .choices) after) before
-        → size ≡ length (sheetLine i (ring .n) (a .choices) after)
+    -- j is the number that the code passes on
+    pub scan-served : (j i : ℕ) (before out : List ℕ) (size : ℕ) → j ≡ i
+        → out ≡ written (sheetLine j (ring .n) (a .choices) after) before
+        → size ≡ length (sheetLine j (ring .n) (a .choices) after)
         → Answered i ring s before out (a .ring) size
     unfolding scanText scanState
-    scan-served i before out size e f =
+    scan-served j i before out size same-number e f =
         let same = told-size ring (scanReports s) in
-        let t = scan-given .shown i before out size (rw same e) (rw same f) in
+        let t = scan-given .shown i before out size (rw (same, ← same-number) e) (rw (same, ← same-number) f) in
         let z = number-is 0 (ap outcomeNumber served) in
         record { state = rw z (t .state); good = next-good-scan; stored = rw z (t .stored) }
 

@@ -26,7 +26,7 @@ sheet-line-requires c κs =
     let size = good-size _ (p .0) in
     let s = d .before .before .before .args .scan in
     let g = scan-named _ (p .0) s _ (search needs) _ _ (e .0) (e .1 .0) (e .1 .1 .0) (c .before .before .enum-told .given .1) in
-    (p .1, omega (arith, size .0), size .1, g .0, g .1, p .2)
+    (omega (arith, p .1), omega (arith, size .0), size .1, g .0, g .1, p .2)
 
 enum-known-outcome : tie.Need-enum-known-outcome
 enum-known-outcome c = search needs
@@ -44,7 +44,8 @@ returns c =
     let e = d .scan .ensures in
     let a = d .before .before .before in
     let l = c .before .before .sheet-line .ensures in
-    scan-served _ (a .pre .0) (a .args .scan) _ (search needs) _ _ (e .0) (e .1 .0) (e .1 .1 .0) (o .enum-told .given .1) _ _ _ _ (l .0) (l .1)
+    scan-served _ (a .pre .0) (a .args .scan) _ (search needs) _ _ (e .0) (e .1 .0) (e .1 .1 .0) (o .enum-told .given .1) _ _ _ _ _
+    (omega arith) (l .0) (l .1)
 
 same-length-2 : tie.Need-same-length-2
 same-length-2 c = search needs

@@ -1,5 +1,6 @@
 -- Safe: the texts fit, and a started ring is a good one.
 use mathlib.Core.Path.{sym, _∙_}
+use native.Mathlib.Omega.{arith}
 use lib.Seq.{length-take-le}
 use borrow.Author.Needs.{needs}
 use Rattle.model.specs.Laws.Refusals.{size-bounds}
@@ -21,7 +22,7 @@ refused-slice c = sym (length-take-le _ _ (refused-prefix (c .before)))
 start-line-requires : tie.Need-start-line-requires
 start-line-requires c κs =
     let size = size-bounds _ (sym (c .before .before .size-outside .ensures) ∙ c .before .if1 .left) in
-    (size .0, size .1, search needs)
+    (omega (arith, size .0), omega (arith, size .1), search needs)
 
 -- the start's line
 start-prefix : tie.Need-slice-reshare-prefix-write-all-2
@@ -35,7 +36,7 @@ print-scans-requires c κs =
     let d = c .before .before .before .before .before .before .before in
     let s = d .before .before in
     let size = size-bounds _ (sym (s .before .size-outside .ensures) ∙ s .if1 .left) in
-    (rw (d .start-line .ensures .state) (start-good _ (size .0) (size .1)), search needs)
+    (rw (d .start-line .ensures .state) (start-good _ (omega (arith, size .0)) (omega (arith, size .1))), search needs)
 
 pub print-ring-spec : {M : Type 1} → statement M
 print-ring-spec =
