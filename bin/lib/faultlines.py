@@ -2,7 +2,8 @@
 
 A part is its kind and number, as G1, GB3 or BB2; numbers go from 1 to 20, and no further than the ring's size. Words are those
 of WORDS. Where a byte has no name it is written as a number: `code 99 word 7`; a file that has not the shape of a fault file is
-written as `bytes 3 1 0 64`. What follows a # is passed over, so are empty lines, and case, spaces and tabs do not matter.
+written as `bytes 3 1 0 64`. What follows a # is passed over, so are empty lines, and case, spaces and tabs do not matter. Between
+lines `scan` and `end`, which bin/ringscan takes, stand reports that are handed over at once.
 """
 import re
 
