@@ -2,7 +2,7 @@
 """Makes the stored cases of the vector programs from the simulation in tests/simulation, never from our own programs.
 
     tests/make_vectors.py                       writes crates/vectors*/data/cases and stdout, and what the gate runs
-                                                ringplant, ringtrace and ringcuts on
+                                                ringplant, ringtrace, ringcuts and ringscan on
     tests/make_vectors.py --seed S --out DIR    writes other cases, DIR/vectors/cases and so on; a program of stored cases
                                                 reads the file `cases` of the folder that it is run in
 
@@ -522,6 +522,27 @@ def cuts_text(data):
     return "\n".join(lines) + "\n"
 
 
+def scans_file(n, calls):
+    """What ringscan reads: n, then for each call, a list of reports, their number and 64 places. Those behind the reports hold a part
+    that no ring has."""
+    none = bytes([2, 255, 3])
+    scanned = [b"".join(map(report_bytes, reports[:rs.MOST_SCANNED])) + none * (rs.MOST_SCANNED - len(reports)) for reports in calls]
+    return bytes([n]) + b"".join(bytes([len(reports)]) + scan for reports, scan in zip(calls, scanned))
+
+
+def scans_text(n, calls):
+    """What ringscan prints: the start's line, then that of each call, a list of reports, or its refusal."""
+    sheet = bytearray(rs.LONGEST_SHEET)
+    answer = rs.start(n, sheet)
+    if answer.refusal:
+        return "refused %d\n" % answer.refusal
+    lines = [rs.line_of_run(0, n, answer.choices, sheet)]
+    for number, reports in enumerate(calls, start=1):
+        answer = rs.scan(answer.record, reports, len(reports), sheet)
+        lines.append("refused %d\n" % answer.refusal if answer.refusal else rs.line_of_run(number, n, answer.choices, sheet))
+    return "".join(lines)
+
+
 def gate_plant():
     """A ring of twelve with a clash, buses fed by one generator and dark ones, over stuck breakers of both kinds."""
     health = {code: 0 for code in rs.ALL_CODES}
@@ -539,6 +560,22 @@ GATE_TRACE = fault_file(3, [(64, 3), (65, 2), (0, 1), (1, 1), (2, 1), (65, 0)])
 
 # In a ring of six BB2 sticks closed, BB4 and BB5 stick open and G5 fails, so that B5 is dark; GB1 sticks open and comes back; G6 fails.
 GATE_CUTS = fault_file(6, [(65, 3), (67, 2), (32, 2), (68, 2), (4, 1), (32, 0), (5, 1)])
+
+
+def gate_scans():
+    """A ring of five and its calls."""
+    calls = [
+        [("BB", 2, 2), ("BB", 4, 2)],                           # two faults
+        [],                                                     # no reports: two empty waves
+        [("GB", 1, 2), ("G", 2, 0), ("GB", 9, 2)],              # refused by 7, the first bad one; nothing changes
+        [("BB", 2, 0), ("BB", 1, 3), ("G", 4, 1)],              # a word 3: BB1 joins two running generators
+        [("BB", 1, 0), ("BB", 5, 3), ("BB", 5, 0)],             # its return, and a word 3 that is taken back
+        [("GB", 2, 2)],                                         # a single report
+        [("BB", k % 5 + 1, (2, 3, 0)[k % 3]) for k in range(64)],  # 64 reports
+        [("BB", 1, 0)] * 65,                                    # refused by 11; nothing changes
+        [("BB", k, 0) for k in range(1, 6)] + [("GB", 2, 0)],   # all breakers come back
+    ]
+    return 5, [[report_on(*report) for report in reports] for reports in calls]
 
 
 def write(path, data):
@@ -568,6 +605,8 @@ def stored_files():
     yield os.path.join("ringtrace", "stdout"), trace_text(GATE_TRACE).encode()
     yield os.path.join("ringcuts", "stdin"), GATE_CUTS
     yield os.path.join("ringcuts", "stdout"), cuts_text(GATE_CUTS).encode()
+    yield os.path.join("ringscan", "stdin"), scans_file(*gate_scans())
+    yield os.path.join("ringscan", "stdout"), scans_text(*gate_scans()).encode()
 
 
 def store():

@@ -2,7 +2,8 @@
 
 A part is its kind and number, as G1, GB3 or BB2; numbers go from 1 to 20, and no further than the ring's size. Words are those
 of WORDS. Where a byte has no name it is written as a number: `code 99 word 7`; a file that has not the shape of a fault file is
-written as `bytes 3 1 0 64`. What follows a # is passed over, so are empty lines, and case, spaces and tabs do not matter.
+written as `bytes 3 1 0 64`. What follows a # is passed over, so are empty lines, and case, spaces and tabs do not matter. Between
+lines `scan` and `end`, which bin/ringscan takes, stand reports that are handed over at once.
 """
 import re
 
@@ -15,6 +16,9 @@ MOST_REPORTS = 4096
 
 # The words of a report, by number.
 WORDS = ("fit", "stuck off", "stuck open", "stuck closed")
+
+# The lines that a scan stands between.
+SCAN_WORDS = ("scan", "end")
 
 # The words that each kind of part takes; a generator that has failed is not made fit again (refusal 7).
 WORDS_OF_KIND = {"G": ("stuck off",), "GB": ("fit", "stuck open", "stuck closed"), "BB": ("fit", "stuck open", "stuck closed")}
@@ -77,6 +81,8 @@ def word_number(texts):
 
 def report_in(texts, size):
     """The code and the word of a report's line."""
+    if texts[0].lower() in SCAN_WORDS:
+        raise Mistake("scans are read by bin/ringscan")
     if texts[0].lower() == "code" and len(texts) > 1:
         return number_in(texts[1], 255, "a code"), word_number(texts[2:])
     return part_code(texts[0], size), word_number(texts[1:])
@@ -108,18 +114,27 @@ def lines_in(data):
     return [Line(number, texts) for number, texts in numbered if texts]
 
 
-def read_all(lines, read):
+def first_twenty(lines):
+    """A text of lines, and how many there are above twenty."""
+    return "\n".join(lines[:20] + (["and %d lines more" % (len(lines) - 20)] if len(lines) > 20 else []))
+
+
+def read_lines(lines, read):
     """What `read` makes of each line; every line with a mistake is named in the failure."""
     found, mistakes = [], []
     for line in lines:
         try:
-            found.append(read(line.texts))
+            found.append(read(line))
         except Mistake as mistake:
             mistakes.append("%s: %s" % (line, mistake))
     if mistakes:
-        more = ["and %d lines more" % (len(mistakes) - 20)] if len(mistakes) > 20 else []
-        raise Failure("\n".join(mistakes[:20] + more))
+        raise Failure(first_twenty(mistakes))
     return found
+
+
+def read_all(lines, read):
+    """What `read` makes of the words of each line."""
+    return read_lines(lines, lambda line: read(line.texts))
 
 
 def size_of(lines):
@@ -311,55 +326,37 @@ MOST_CALLS = 9999       # a call's number has at most four digits
 BLANK_PLACE = bytes(3)
 
 
-class Calls:
-    """The calls of readable lines after `ring N`: a report by itself, or the reports between `scan` and `end`. A part has its number
-    here though the ring may lack it, so that the controller judges it."""
+class Call:
+    """A report by itself, or a scan: the line that it is or begins with, its reports, and the line of each."""
 
-    def __init__(self):
-        self.calls = []
-        self.scanning = False
+    def __init__(self, label):
+        self.label = str(label)
+        self.reports = []
+        self.labels = []
 
-    def take(self, texts):
-        """A line: a report, `scan` or `end`."""
-        word = " ".join(texts).lower()
-        if word in ("scan", "end"):
-            if self.scanning == (word == "scan"):
-                raise Mistake("this scan has no `end`" if self.scanning else "no scan begins before this `end`")
-            self.scanning = not self.scanning
-            if self.scanning:
-                self.calls.append([])
-        else:
-            report = scanned(*report_in(texts, MOST))
-            if self.scanning:
-                self.calls[-1].append(report)
-            else:
-                self.calls.append([report])
+    def __str__(self):
+        return self.label
 
+    def add(self, label, report):
+        self.labels.append(str(label))
+        self.reports.append(report)
+        return self
 
-def scanned(code, word):
-    """A code and a word that a place of a scan can hold."""
-    if name_of(code) is None:
-        raise Mistake("code %d names no part, so that no scan can hold it" % code)
-    if word >= len(WORDS):
-        raise Mistake("word %d is none, so that no scan can hold it" % word)
-    return code, word
-
-
-def scans_of(data):
-    """The size and the calls of readable lines, or of a fault file, whose reports stand by themselves; None for a file that is
-    refused by its shape."""
-    lines = lines_in(data) if is_readable(data) else []
-    if lines and not is_bytes(lines):
-        size, calls = size_of(lines), Calls()
-        read_all(lines[1:], calls.take)
-        if calls.scanning:
-            raise Failure("the last scan has no `end`")
-        return size, calls.calls
-    file = fault_file(data)
-    if file_refusal(file)[0]:
+    def refusal(self, size):
+        """Why it is refused: the line, the number and the reason; None where it is served."""
+        if len(self.reports) > MOST_SCANNED:
+            return "%s: refused 11, a scan has at most %d reports, not %d" % (self, MOST_SCANNED, len(self.reports))
+        for label, report in zip(self.labels, self.reports):
+            number, reason = report_refusal(size, *report)
+            if number:
+                return "%s: refused %d, %s" % (label, number, reason)
         return None
-    reports = [Line(i, ["code %d word %d" % report]) for i, report in enumerate(reports_of(file), start=1)]
-    return file[0], [[report] for report in read_all(reports, lambda texts: scanned(*report_in(texts[0].split(), MOST)))]
+
+    def case(self):
+        """The bytes that the program takes: the count and 64 places, those past the count blank. The count is a byte; one above 64 is
+        refused, whatever it is."""
+        places = [place_of(*report) for report in self.reports[:MOST_SCANNED]]
+        return bytes([min(len(self.reports), 255)]) + b"".join(places) + BLANK_PLACE * (MOST_SCANNED - len(places))
 
 
 def place_of(code, word):
@@ -368,13 +365,86 @@ def place_of(code, word):
     return bytes([KINDS.index(kind), code - FIRST_CODE[kind] + 1, word])
 
 
+def scanned(code, word):
+    """A report that a place of a scan can hold."""
+    if name_of(code) is None:
+        raise Mistake("code %d names no part; a scan has no place for it" % code)
+    if word >= len(WORDS):
+        raise Mistake("word %d is none; a scan has no place for it" % word)
+    return code, word
+
+
+def unpaired(lines):
+    """What is missing to each `scan` without an `end` and each `end` without a `scan`, by the number of its line."""
+    found, begun = {}, None
+    for line in lines:
+        word = line.texts[0].lower()
+        if word == "scan":
+            if begun:
+                found[begun] = "its `end` is missing; line %d begins another scan" % line.number
+            begun = line.number
+        elif word == "end":
+            if not begun:
+                found[line.number] = "there is no `scan` before it"
+            begun = None
+    if begun:
+        found[begun] = "its `end` is missing"
+    return found
+
+
+class Calls:
+    """The calls of readable lines after `ring N`: a report by itself, or the reports between `scan` and `end`. A part has its code
+    here though the ring may lack it, so that the controller judges it."""
+
+    def __init__(self, lines):
+        self.calls = []
+        self.scan = None
+        self.unpaired = unpaired(lines)
+        read_lines(lines, self.take)
+
+    def begin(self, line):
+        self.calls.append(Call(line))
+        return self.calls[-1]
+
+    def take(self, line):
+        """A line: a report, `scan` or `end`."""
+        word = line.texts[0].lower()
+        if word not in SCAN_WORDS:
+            report = scanned(*report_in(line.texts, MOST))
+            (self.scan or self.begin(line)).add(line, report)
+        elif len(line.texts) > 1:
+            raise Mistake("`%s` stands by itself in its line" % word)
+        elif line.number in self.unpaired:
+            raise Mistake(self.unpaired[line.number])
+        else:
+            self.scan = self.begin(line) if word == "scan" else None
+
+
+def scans_of(data):
+    """The size and the calls of readable lines, or of a fault file, whose reports stand by themselves; None for a fault file that is
+    refused by its shape."""
+    lines = lines_in(data) if is_readable(data) else []
+    if lines and not is_bytes(lines):
+        return size_of(lines), Calls(lines[1:]).calls
+    file, labels = labelled_file(data)
+    if file_refusal(file)[0]:
+        return None
+    calls = [Call(label).add(label, report) for label, report in zip(labels, reports_of(file))]
+    read_lines(calls, lambda call: scanned(*call.reports[0]))
+    return file[0], calls
+
+
+def together(calls):
+    """One scan of all reports."""
+    whole = Call("all together")
+    for call in calls:
+        for label, report in zip(call.labels, call.reports):
+            whole.add(label, report)
+    return whole
+
+
 def scan_cases(size, calls):
-    """The bytes that the program takes: the size, and for each call the count and 64 places, those past the count blank. A count
-    is a byte; one above 64 is refused, whatever it is."""
+    """The bytes that the program takes: the size, then the calls."""
     if len(calls) > MOST_CALLS:
         raise Failure("there are at most %d calls, not %d" % (MOST_CALLS, len(calls)))
-    parts = [bytes([size])]
-    for reports in calls:
-        places = [place_of(*report) for report in reports[:MOST_SCANNED]]
-        parts.append(bytes([min(len(reports), 255)]) + b"".join(places) + BLANK_PLACE * (MOST_SCANNED - len(places)))
-    return b"".join(parts)
+    return bytes([size]) + b"".join(call.case() for call in calls)

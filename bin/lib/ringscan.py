@@ -2,7 +2,7 @@
 
     ring 3                  the size, first
     BB2 stuck open          a report by itself
-    scan                    what the scanner found in one cycle, up to 64 reports, between `scan` and `end`
+    scan                    up to 64 reports of one cycle, between `scan` and `end`
     BB1 stuck closed
     BB2 fit
     end
@@ -11,14 +11,27 @@
     bin/ringscan --together FILE                    all reports of the file in one scan
     bin/ringscan < FILE                             from standard input
 
-A line has the number of the call, the buses, the first wave and the second, as those of bin/ringctl. A scan's waves go straight
-from the orders before it to those after its last report. A scan that is refused, as `refused 5`, changes nothing, and the next
-call goes on from there: 5, 6 and 7 by its first bad report, 11 for more than 64 reports.
-A file that begins with `ring ` or `#` has readable lines, every other is a fault file.
+A line has the number of the call, the buses, the first wave and the second, as in the run of bin/ringctl. The waves of a scan go straight
+from the orders before it to those after its last report; without reports they are empty. A call that is refused prints `refused` and
+the number, 5, 6 or 7 by its first bad report, 11 for more than 64 reports, and changes nothing; the line and the reason are said on
+standard error, and the next call goes on from there.
+A file that begins with `ring ` or `#` has readable lines. Every other is a fault file, and each of its reports stands by itself; one of
+another shape is refused whole, as by bin/ringctl.
 Status: 0 all served, 1 something refused, 2 nothing could be read or written.
 """
 import faultlines
 import ringtools
+
+
+def refused_in(lines):
+    return [line.startswith(b"refused ") for line in lines]
+
+
+def explain(size, calls, refused):
+    """The line and the reason of each call that was refused."""
+    reasons = [call.refusal(size) for call, is_refused in zip(calls, refused) if is_refused]
+    if reasons:
+        ringtools.say("ringscan", faultlines.first_twenty(reasons))
 
 
 def run(arguments):
@@ -26,15 +39,17 @@ def run(arguments):
     data = ringtools.read_input(path)
     found = faultlines.scans_of(data)
     if found is None:
-        ringtools.write_output(b"refused %d\n" % faultlines.file_refusal(faultlines.fault_file(data))[0])
-        ringtools.hint("ringscan", data)
-        return ringtools.REFUSED
+        output, status = ringtools.answer_of("ringctl", data, faultlines.fault_file(data), "ringscan")
+        ringtools.write_output(output)
+        return status
     size, calls = found
     if options:
-        calls = [[report for call in calls for report in call]]
+        calls = [faultlines.together(calls)]
     output = ringtools.output_of("ringscan", faultlines.scan_cases(size, calls), "ringscan")
     ringtools.write_output(output)
-    return ringtools.REFUSED if any(line.startswith(b"refused ") for line in output.splitlines()) else ringtools.SERVED
+    start, *answers = refused_in(output.splitlines())
+    explain(size, calls, answers)
+    return ringtools.REFUSED if start or any(answers) else ringtools.SERVED
 
 
 if __name__ == "__main__":

@@ -216,12 +216,13 @@ def hint(name, data):
         say(name, "this looks like text; readable lines begin with `ring N` or `#`")
 
 
-def answer_of(name, data, file):
-    """What a program prints for a fault file, made of what was read or that itself, and the status that it calls for."""
-    output = output_of(name, file, name)
+def answer_of(name, data, file, tool=None):
+    """What a program prints for a fault file, made of what was read or that itself, and the status that it calls for. The command
+    has the program's name, unless another is given."""
+    output = output_of(name, file, tool or name)
     status = status_of(output)
     if status == REFUSED and not is_readable(data):
-        hint(name, data)
+        hint(tool or name, data)
     return output, status
 
 

@@ -120,6 +120,13 @@ class ScanCase:
         return self.buffer[:end], self.buffer[end:]
 
 
+def simulated_scans(data, together=False):
+    """The simulation's answer to readable lines with scans, or to a fault file whose reports stand by themselves."""
+    size, calls = faultlines.scans_of(data)
+    reports = [[ringsim.report_of(*report) for report in call.reports] for call in calls]
+    return make_vectors.scans_text(size, [sum(reports, [])] if together else reports).encode()
+
+
 # Of the programs whose cases end in the bytes of a buffer: the bytes before those, the first that is expected, and the room of the buffer.
 LAYOUTS = {
     "vectors_step": (288, 126, lambda case: case[125]),

@@ -49,6 +49,17 @@ class Commands(unittest.TestCase):
         self.assertEqual(re.sub("^    ", "", shown, flags=re.M).encode(), answer)
         self.assertIn(answer, read("examples", "planning-desk.cuts"))
 
+    def test_the_scan_in_the_readme(self):
+        shown = re.search(r"((?:    .*\n)+)", text_of("README.md").split("Of the second the answer is\n")[1]).group(1)
+        answer = tool("ringscan", "--together", path("examples", "cut-off.txt")).out
+        self.assertEqual(re.sub("^    ", "", shown, flags=re.M).encode(), answer)
+
+    def test_the_lines_of_a_scan_in_the_examples(self):
+        shown = re.search(r"((?:    .*\n)+)", text_of("examples", "README.md").split("the last of the second are\n")[1]).group(1)
+        file = path("examples", "generators-fail.txt")
+        last = [tool(*words, file).out.splitlines(True)[-1] for words in (["ringctl"], ["ringscan", "--together"])]
+        self.assertEqual(re.sub("^    ", "", shown, flags=re.M).encode(), b"".join(last))
+
     def test_the_sets_on_the_card(self):
         count, parts = re.search(r"`(B3 \d+)` says that B3 has ten, and `(.*?)` is one", text_of("docs", "CARD.md")).groups()
         lines = tool("ringcuts", "--bus", "B3", data=b"ring 3\n").out.decode().splitlines()
@@ -60,12 +71,12 @@ class Commands(unittest.TestCase):
         self.assertIn(line.encode() + b"\n", read("examples", "bus-breaker-open.run"))
 
     def test_card_and_readme_agree(self):
-        """Both have the picture of the ring, and the ten refusals."""
+        """Both have the picture of the ring, and the eleven refusals."""
         readme, card = text_of("README.md"), text_of("docs", "CARD.md")
         picture = re.search(r"((?:    .*\n)+)", card).group(1)
         self.assertIn(picture, readme)
         for text in (readme, card):
-            self.assertEqual(re.findall(r"^\| (\d+) \|", text, re.M), [str(k) for k in range(1, 11)])
+            self.assertEqual(re.findall(r"^\| (\d+) \|", text, re.M), [str(k) for k in range(1, 12)])
 
     def test_links_lead_somewhere(self):
         for name in ("README.md", "docs/CARD.md", "examples/README.md", "examples/exercises.md"):

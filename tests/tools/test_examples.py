@@ -4,11 +4,17 @@ import os
 import re
 import unittest
 
-from support import ToolCase, faultlines, make_vectors, path, read, ringsim, tool
+from support import ToolCase, faultlines, make_vectors, path, read, ringsim, simulated_scans, tool
 
-EXAMPLES = sorted(os.path.basename(name)[:-4] for name in glob.glob(path("examples", "*.txt")))
-CUTS = sorted(os.path.basename(name)[:-5] for name in glob.glob(path("examples", "*.cuts")))
-ERRORS = sorted(os.path.basename(name)[:-4] for name in glob.glob(path("examples", "errors", "*.txt")))
+
+def named(*pattern):
+    return sorted(os.path.splitext(os.path.basename(name))[0] for name in glob.glob(path("examples", *pattern)))
+
+
+SCANS = named("*.scans")
+EXAMPLES = [name for name in named("*.txt") if name not in SCANS]
+CUTS = named("*.cuts")
+ERRORS = named("errors", "*.txt")
 
 
 def simulated_plant(lines):
@@ -26,13 +32,19 @@ def simulated_cuts(lines):
     return make_vectors.cuts_text(faultlines.encode(lines)).encode()
 
 
-SIMULATED = {"ringctl": simulated_run, "ringcuts": simulated_cuts, "ringplant": simulated_plant}
+SIMULATED = {"ringctl": simulated_run, "ringcuts": simulated_cuts, "ringplant": simulated_plant, "ringscan": simulated_scans}
+
+
+def strokes(line):
+    """The strokes of a run's line."""
+    return [stroke for wave in line.split(b" / ")[1:] if wave != b"-" for stroke in wave.split()]
 
 
 class Examples(ToolCase):
 
     def test_each_has_its_files(self):
         examples = [(name, end) for name in EXAMPLES for end in ("txt", "faults", "run")] + [(name, "cuts") for name in CUTS]
+        examples += [(name, end) for name in SCANS for end in ("txt", "scans")]
         errors = [(name, end) for name in ERRORS for end in ("txt", "feeds")]
         for folder, wanted in (("examples", examples), ("examples/errors", errors)):
             files = [name for name in os.listdir(path(folder)) if not name.endswith(".md") and name != "errors"]
@@ -41,7 +53,7 @@ class Examples(ToolCase):
 
     def test_each_is_in_the_list(self):
         text = read("examples", "README.md").decode()
-        for name in EXAMPLES:
+        for name in EXAMPLES + SCANS:
             self.assertIn("| %s |" % name, text)
         for name in ERRORS:
             self.assertIn("examples/errors/%s.txt" % name, text)
@@ -64,6 +76,29 @@ class Examples(ToolCase):
                 for end in (".txt", ".faults"):
                     self.check(tool("ringcuts", path("examples", name + end)), 0, expected)
 
+    def test_scans(self):
+        self.assertTrue(SCANS)
+        for name in SCANS:
+            with self.subTest(name):
+                expected = read("examples", name + ".scans")
+                self.assertEqual(simulated_scans(read("examples", name + ".txt")), expected)
+                self.check(tool("ringscan", path("examples", name + ".txt")), 0, expected)
+
+    def test_one_scan_instead_of_single_reports(self):
+        """Of every example: the last choices are the same, with at most as many strokes; in some there are fewer."""
+        spared = set()
+        for name in EXAMPLES:
+            single = read("examples", name + ".run").splitlines()[1:]
+            if single:
+                answer = tool("ringscan", "--together", path("examples", name + ".txt"))
+                self.check(answer, 0, simulated_scans(read("examples", name + ".txt"), together=True))
+                start, line = answer.out.splitlines()
+                self.assertEqual((start, line.split(b" / ")[0].split()[1:]), (single[0], single[-1].split(b" / ")[0].split()[1:]))
+                more = sum(len(strokes(step)) for step in single[1:]) - len(strokes(line))
+                self.assertGreaterEqual(more, 0)
+                spared |= {name} if more else set()
+        self.assertLessEqual({"generators-fail", "breaker-returns", "cut-off"}, spared)
+
     def test_errors(self):
         for name in ERRORS:
             with self.subTest(name):
@@ -78,6 +113,10 @@ class Examples(ToolCase):
         self.assertIn(b"B4=G2h", runs["tie-of-four"])
         self.assertNotIn(b"=-", runs["planning-desk"])
         self.assertIn(b"\nB5 7\nBB5\n", read("examples", "planning-desk.cuts"))
+        self.assertIn(b" / - / -\n", read("examples", "one-cycle.scans"))
+        self.assertNotIn(b"=-", read("examples", "one-cycle.scans"))
+        single = re.sub(b"^(scan|end)\n", b"", read("examples", "one-cycle.txt"), flags=re.M)
+        self.assertIn(b"B1=- B2=-", simulated_run(single))
         clashes = [name for name in ERRORS if b"clash G1 G2" in read("examples", "errors", name + ".feeds")]
         self.assertEqual(clashes, ["breaker-behind", "closing-first", "stuck-closed-taken-for-open"])
 
@@ -96,7 +135,9 @@ class Exercises(ToolCase):
             with self.subTest(number):
                 lines, expected = lines.encode(), answers[number].encode()
                 self.assertEqual(SIMULATED[tools[number]](lines), expected)
-                self.check(tool(tools[number], data=lines), int(expected.startswith(b"refused")), expected)
+                refused = re.search(b"^refused", expected, re.M)
+                said = "^ringscan: line .* refused" if refused and tools[number] == "ringscan" else None
+                self.check(tool(tools[number], data=lines), int(bool(refused)), expected, said)
 
 
 if __name__ == "__main__":
