@@ -122,13 +122,14 @@ class Program(unittest.TestCase):
             self.assertEqual(len(numbers_in(self.holds(4, [make_vectors.with_report(call, place, bad), reports(OPEN)]))), 1)
 
     def test_input_that_breaks_off(self):
-        """A call of fewer than 193 bytes is none; what came before it is served."""
+        """A call of fewer than 193 bytes is none, and is said to be broken off; what came before it is served."""
         calls = [reports(OPEN), reports(("G", 1, 1), ("BB", 2, 0)), []]
         data = make_vectors.scans_file(3, calls)
         lines = text_of(3, calls).splitlines(True)
         for end in list(range(1, 6)) + [193, 194, 195, 386, 387, 388, 579, 580]:
             answer = program("ringscan", data[:end])
-            self.assertEqual((answer.out, answer.said, answer.status), (b"".join(lines[:1 + (end - 1) // 193]), "", 0), end)
+            said = "ringscan: the last scan is broken off\n" if (end - 1) % 193 else ""
+            self.assertEqual((answer.out, answer.said, answer.status), (b"".join(lines[:1 + (end - 1) // 193]), said, 0), end)
 
     def test_input_in_portions(self):
         running = subprocess.Popen([path("target", "bin", "ringscan")], stdin=subprocess.PIPE, stdout=subprocess.PIPE)

@@ -19,7 +19,11 @@ fn print_scans(started: Ring, out: &mut [u8]) -> bool
     let mut ring = started;
     for i in 1..10000usize {
         let mut case = [0u8; 193];
-        if io::read_full(STDIN_FILENO, &mut case) < 193 {
+        let got = io::read_full(STDIN_FILENO, &mut case);
+        if got < 193 {
+            if 0 < got {
+                io::write_all(STDERR_FILENO, b"ringscan: the last scan is broken off\n");
+            }
             break;
         }
         let line = calls::scan_text(ring, answers::scan_at(&case, 0), i, out);

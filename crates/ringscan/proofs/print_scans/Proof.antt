@@ -13,15 +13,15 @@ use Rattle.ringscan.proofs.print_scans.Statement.{statement}
 use Rattle.ringscan.proofs.print_scans.Tie as tie
 
 abbrev Inv-loop : tie.InvT-loop
-Inv-loop out₀ ring₀ i₀ out ring i = (badRecord ring ≡ false) × (lineRoom ≤ length out) × (length out ≡ length out₀) × (i ≤ 10000)
+Inv-loop out₀ ring₀ i₀ said out ring i = (badRecord ring ≡ false) × (lineRoom ≤ length out) × (length out ≡ length out₀) × (i ≤ 10000)
 
 abbrev μ-loop : tie.MeasureT-loop
-μ-loop out₀ ring₀ i₀ out ring i = 10000 - i
+μ-loop out₀ ring₀ i₀ said out ring i = 10000 - i
 
 slice-reshare-prefix-write-all : tie.Need-slice-reshare-prefix-write-all Inv-loop μ-loop
 slice-reshare-prefix-write-all c = stored-fits (c .before .before .scan-text .ensures .stored) (search needs)
 
-slice-aggregate-write-all : tie.Need-slice-aggregate-write-all Inv-loop μ-loop
+slice-aggregate-write-all : tie.Need-slice-aggregate-write-all-2 Inv-loop μ-loop
 slice-aggregate-write-all c = sym (length-take-le _ _ (stored-fits (c .before .before .before .scan-text .ensures .stored) (search needs)))
 
 loop-again : tie.Need-loop-again Inv-loop μ-loop
@@ -38,6 +38,8 @@ print-scans-spec =
     (λ c κs. search needs)
     (λ c. search needs)
     (λ c κs. search needs)
+    (λ c. search needs)
+    (λ c κs. search needs)
     (λ c κs. search needs)
     slice-reshare-prefix-write-all
     slice-aggregate-write-all
@@ -47,6 +49,8 @@ print-scans-spec =
     (λ c. search needs)
     (λ c. search needs)
     loop-again
+    (λ c. search needs)
+    (λ c. search needs)
     (λ c. search needs)
     (λ c. search needs)
     (λ c. search needs)
