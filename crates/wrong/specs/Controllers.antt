@@ -3,7 +3,6 @@
 use mathlib.Core.Path.{_≡_, refl}
 use mathlib.Core.Bool.{Bool, true, false, not, _&&_, cond}
 use mathlib.Core.List.{List, [], _∷_, _++_, map, flatMap, Permᴰ·refl}
-use mathlib.Core.Option.{none, some}
 use Prim.Native.Nat.{ℕ, _-_}
 use native.Mathlib.Omega.{arith}
 use lib.Dec.{eqb}
@@ -52,7 +51,6 @@ use Rattle.model.specs.Laws.Refusals.{served-refused}
 use Rattle.demands.specs.Statements.Demand3.{
   Controller,
   PlantState,
-  operation,
   decode,
   Call,
   step,

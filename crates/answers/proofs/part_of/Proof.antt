@@ -1,6 +1,5 @@
 -- `answers::part_of` meets its contract.
 use native.Mathlib.Omega.{arith}
-use Rattle.model.specs.Laws.Tests.{facts}
 use Rattle.answers.specs.Answers.{part-generator, part-generator-breaker, part-bus-breaker}
 use Rattle.answers.proofs.part_of.Statement.{statement}
 use Rattle.answers.proofs.part_of.Tie as tie

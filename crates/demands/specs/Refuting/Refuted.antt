@@ -21,7 +21,7 @@ use Rattle.model.specs.declared.Feed.the-variants as feed
 use Rattle.model.specs.Lists.{below, first, anyOf, isNone, _∈_, RisingBy, empty, more}
 use Rattle.model.specs.Values.{partCode, samePart, outcomeNumber, choiceSource}
 use Rattle.model.specs.Plant.{PartHealth, largest, InRing, parts, busFeed, Reaches}
-use Rattle.model.specs.Priority.{Path, paths}
+use Rattle.model.specs.Priority.{Path}
 use Rattle.model.specs.Choosing.{permitted, choose, chosen, plan, commands, choiceOf, choices}
 use Rattle.model.specs.Sheet.{opening, closing}
 use Rattle.model.specs.Reports.{blankRing}

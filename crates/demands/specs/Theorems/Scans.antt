@@ -20,7 +20,7 @@ use Rattle.model.specs.Choosing.{commands}
 use Rattle.model.specs.Sheet.{opening, closing, sheetOf, sheet, written}
 use Rattle.model.specs.Reports.{healthOf, commandsOf, commandPlaces, told, planned, withPlan}
 use Rattle.model.specs.Refusals.{firstMet, orElse, badRecord, countAbove, tooShort, sheetRefusal, nextSheet, reportConditions, stepRefusal}
-use Rattle.model.specs.Answers.{Reply, servedAnswer, servedReply, refusedAnswer, refusedReply, stepReply}
+use Rattle.model.specs.Answers.{servedAnswer, servedReply, refusedAnswer, refusedReply, stepReply}
 use Rattle.model.specs.Scans.{scanReports, toldAll, firstRefusal, scanRefusal, scanReply}
 use Rattle.model.specs.Laws.Tests.{contra, dec, dec-eq}
 use Rattle.model.specs.Laws.Lists.{keep-none}

@@ -1,5 +1,4 @@
 -- `scans::check` meets its contract. The loop's invariant: the reports before the i-th are not refused.
-use mathlib.Core.Path.{_≡_}
 use Prim.Native.Nat.{_≤_, _-_}
 use native.Mathlib.Omega.{arith}
 use lib.ListN.{length, length-map}
