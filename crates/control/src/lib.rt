@@ -54,7 +54,7 @@ pub fn scan(ring: Ring, scan: Scan, buffer: &mut [u8]) -> RingAnswer
         ⌝ }
 {
     if records::bad_record(ring) {
-        return rings::refused(9, ring);
+        return rings::refused(9, ring); // before its count is looked at
     }
     transition::scan(ring, scan, buffer)
 }
