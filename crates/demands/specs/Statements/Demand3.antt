@@ -333,7 +333,8 @@ pub record Answered (Met : ℕ → Type 0) (kept : Ring) (buffer : List ℕ) (re
   -- "a call is refused exactly when a numbered refusal meets it", with its number
   pub only : (k : ℕ) → reply .answer .outcome ≡ outcome.Refused k → Met k
   pub always : (k : ℕ) → Met k → reply .answer .outcome ≡ outcome.Refused k
-  -- "the record as handed in and the buffer untouched", "The choices of a refused start or step .. are all dark"
+  -- "the record as handed in and the buffer untouched", "The choices of a refused start or step .. are all dark"; "a refused call
+  -- that they add is answered as a refused step" (document 02)
   pub record-kept : isServed reply ≡ false → reply .answer .ring ≡ kept
   pub buffer-kept : isServed reply ≡ false → reply .buffer ≡ buffer
   pub choices-dark : isServed reply ≡ false → reply .answer .choices ≡ allDark
