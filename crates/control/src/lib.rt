@@ -26,7 +26,7 @@ pub fn start(n: u8, buffer: &mut [u8]) -> RingAnswer
     transition::start(n, buffer)
 }
 
-// "A step takes a record and a report, and gives the new record, each bus's choice and the sheet."; it "checks 9, 5, 6, 7, 8". A
+// "A step takes a record and a report, and gives the new record, each bus's choice and the sheet."; it checks 9, 5, 6, 8. A
 // refused step gives back the record as handed in, however it is damaged.
 pub fn step(ring: Ring, report: Report, buffer: &mut [u8]) -> RingAnswer
     ensures answer { λ r. ⌜ r ≡ stepReply ring report (now (buffer .entry)) .answer ⌝ }
@@ -43,7 +43,7 @@ pub fn step(ring: Ring, report: Report, buffer: &mut [u8]) -> RingAnswer
 }
 
 // "The record and choices must be those that single steps would end with, and the sheet goes straight from the first standing orders to
-// the last."; it checks 9, "11 for a count above 64, after 9 and before the reports", its reports first to last, each 5, 6, 7, and 8
+// the last."; it checks 9, "11 for a count above 64, after 9 and before the reports", its reports first to last, each 5, 6, and 8
 // "last, for the scan's own sheet". A refused scan gives back the record as handed in, however it is damaged.
 pub fn scan(ring: Ring, scan: Scan, buffer: &mut [u8]) -> RingAnswer
     ensures answer { λ r. ⌜ r ≡ scanReply ring scan (now (buffer .entry)) .answer ⌝ }

@@ -1,5 +1,5 @@
 -- Document 01, "What is sent back unserved": for each kind of call its conditions, in the order in which they are checked.
-use mathlib.Core.Bool.{Bool, false, not, _&&_, _||_, cond, Bool·beq}
+use mathlib.Core.Bool.{Bool, not, _&&_, _||_, cond, Bool·beq}
 use mathlib.Core.List.{List, [], _∷_, _++_}
 use mathlib.Core.Option.{Option, none, some}
 use Prim.Native.Nat.{ℕ, _+_, _*_, min}
@@ -54,12 +54,6 @@ wordOfOtherKind (Generator k) v = ltb 3 v || eqb v 2 || eqb v 3
 wordOfOtherKind (GeneratorBreaker k) v = ltb 3 v || eqb v 1
 wordOfOtherKind (BusBreaker k) v = ltb 3 v || eqb v 1
 
--- 7: "word 0 for a generator"
-unfoldable pub generatorFitAgain : Part → ℕ → Bool
-generatorFitAgain (Generator k) v = eqb v 0
-generatorFitAgain (GeneratorBreaker k) v = false
-generatorFitAgain (BusBreaker k) v = false
-
 -- 8: "order buffer shorter than the sheet"
 unfoldable pub tooShort : ℕ → List ℕ → Bool
 tooShort room bytes = ltb room (length bytes)
@@ -101,11 +95,11 @@ countAbove k = ltb 64 k
 unfoldable pub nextSheet : Ring → List ℕ
 nextSheet ring = sheet (ring .n) (commandsOf (ring .commands)) (planned ring)
 
--- "each 5, 6, 7": of a report in a ring of n
+-- "each 5, 6, 7", of a report in a ring of n; "refusal 7 is given to no input any more" (document 02, Note 3)
 unfoldable pub reportConditions : ℕ → Report → List (ℕ × Bool)
 reportConditions n r =
     let v = wordNumber (r .word) in
-    (5, notOfRing n (r .part)) ∷ (6, wordOfOtherKind (r .part) v) ∷ (7, generatorFitAgain (r .part) v) ∷ []
+    (5, notOfRing n (r .part)) ∷ (6, wordOfOtherKind (r .part) v) ∷ []
 
 -- 8 of a sheet
 unfoldable pub sheetRefusal : ℕ → List ℕ → ℕ
@@ -123,7 +117,7 @@ byteRefusal v = firstMet ((6, isNone (wordNamed v)) ∷ [])
 unfoldable pub startRefusal : ℕ → ℕ → ℕ
 startRefusal n room = firstMet ((2, sizeOutside n) ∷ (8, tooShort room (nextSheet (blankRing n))) ∷ [])
 
--- "A step checks 9, 5, 6, 7, 8"
+-- "A step checks 9, 5, 6, 7, 8", without 7 now
 unfoldable pub stepRefusal : Ring → Report → ℕ → ℕ
 stepRefusal ring r room =
     firstMet ((9, badRecord ring) ∷ (reportConditions (ring .n) r ++ ((8, tooShort room (nextSheet (told ring r))) ∷ [])))
@@ -155,7 +149,7 @@ reportsRefusal n [] vs = 0
 reportsRefusal n (c ∷ cs) [] = 0
 reportsRefusal n (c ∷ cs) (v ∷ vs) = let rest = reportsRefusal n cs vs in orElse (reportRefusal n c v) rest
 
--- "A file is checked 1, 2, 3, 4, then its reports first to last, each 5, 6, 7."
+-- "A file is checked 1, 2, 3, 4, then its reports first to last, each 5, 6, 7.", without 7 now
 unfoldable pub fileRefusal : List ℕ → ℕ
 fileRefusal f =
     let reports = reportsRefusal (fileSize f) (fileCodes f) (fileWords f) in

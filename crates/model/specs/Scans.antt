@@ -18,7 +18,7 @@ unfoldable pub toldAll : Ring → List Report → Ring
 toldAll ring [] = ring
 toldAll ring (r ∷ rs) = toldAll (told ring r) rs
 
--- "The first bad report refuses the scan with the refusal that report alone would get": 5, 6 or 7 of the first that meets one
+-- "The first bad report refuses the scan with the refusal that report alone would get": 5 or 6 of the first that meets one
 unfoldable pub firstRefusal : ℕ → List Report → ℕ
 firstRefusal n [] = 0
 firstRefusal n (r ∷ rs) = let rest = firstRefusal n rs in orElse (firstMet (reportConditions n r)) rest

@@ -24,7 +24,6 @@ use Rattle.model.specs.Refusals.{
   firstMet,
   notOfRing,
   wordOfOtherKind,
-  generatorFitAgain,
   reportConditions,
   reportOf,
   reportAnswer,
@@ -36,9 +35,9 @@ use Rattle.model.specs.Laws.Reports.{code-named}
 use Rattle.codes.specs.Codes.{ofRing, code-reads}
 use Rattle.words.specs.Words.{word-named, number-names}
 
--- conditions 6 and 7, of a part and a word
+-- condition 6, of a part and a word
 unfoldable pub wordConditions : Part → Word → List (ℕ × Bool)
-wordConditions p w = (6, wordOfOtherKind p (wordNumber w)) ∷ (7, generatorFitAgain p (wordNumber w)) ∷ []
+wordConditions p w = (6, wordOfOtherKind p (wordNumber w)) ∷ []
 
 -- ---- one report, by the answers of its code and its word
 

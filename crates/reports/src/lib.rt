@@ -14,7 +14,7 @@ use model::ReportAnswer;
 use model::Word;
 use model::WordAnswer;
 
-// Conditions 6 and 7 of a word for a breaker: all breakers take the same words.
+// Condition 6 of a word for a breaker: all breakers take the same words.
 fn check_breaker_word(word: Word) -> Outcome
     ensures { λ r. ⌜ r ≡ outcomeOf (firstMet (wordConditions (Part.BusBreaker 1) word)) ⌝ }
 {
@@ -26,13 +26,13 @@ fn check_breaker_word(word: Word) -> Outcome
     }
 }
 
-// Conditions 6 and 7: the word is none for the part's kind.
+// Condition 6: the word is none for the part's kind. "word 0 makes a generator fit again" (document 02, Note 3).
 fn check_word(part: Part, word: Word) -> Outcome
     ensures { λ r. ⌜ r ≡ outcomeOf (firstMet (wordConditions part word)) ⌝ }
 {
     match part {
         Part::Generator(_) => match word {
-            Word::Fit => Outcome::Refused(7),
+            Word::Fit => Outcome::Served,
             Word::StuckOff => Outcome::Served,
             Word::StuckOpen => Outcome::Refused(6),
             Word::StuckClosed => Outcome::Refused(6),
@@ -42,7 +42,7 @@ fn check_word(part: Part, word: Word) -> Outcome
     }
 }
 
-// A report in a ring of n: conditions 5, 6 and 7, in this order.
+// A report in a ring of n: conditions 5 and 6, in this order.
 pub fn check_report(n: u8, report: Report) -> Outcome
     ensures answer { λ r. ⌜ r ≡ outcomeOf (firstMet (reportConditions n report)) ⌝ }
     ensures number { λ r. ⌜ outcomeNumber r ≡ firstMet (reportConditions n report) ⌝ }

@@ -69,7 +69,7 @@ pub fn step(ring: Ring, report: Report, buffer: &mut [u8]) -> RingAnswer
         choiceValues (r .choices) ≡ callValues (stepRefusal ring report (length (now (buffer .entry)))) (toldRing ring report)
         ⌝ }
 {
-    // 5, 6 and 7 come before the plan, and so before 8.
+    // 5 and 6 come before the plan, and so before 8.
     match reports::check_report(ring.n, report) {
         Outcome::Served => advance(rings::told(ring, report), ring, buffer),
         Outcome::Refused(number) => rings::refused(number, ring),

@@ -1,14 +1,14 @@
 -- No wrong controller meets the demands: of each, the claim that it fails and the calls that show it. Every claim of demands 2 and 3
 -- has its wrong controller; the right one fails no claim, whatever the calls.
 use mathlib.Core.Path.{_≡_, refl}
-use mathlib.Core.Bool.{Bool, true, false, not, _&&_, cond}
+use mathlib.Core.Bool.{Bool, true, false, not, _&&_, _||_, cond}
 use mathlib.Core.List.{List, [], _∷_, _++_, map, flatMap, Permᴰ·refl}
 use Prim.Native.Nat.{ℕ, _-_}
 use native.Mathlib.Omega.{arith}
 use lib.Dec.{eqb}
 use lib.ListN.{length, take, drop, set, replicate}
 use Rattle.model.specs.declared.Part.the-variants.{Generator, BusBreaker}
-use Rattle.model.specs.declared.Word.the-variants.{Fit, StuckOff}
+use Rattle.model.specs.declared.Word.the-variants.{Fit, StuckOff, StuckOpen}
 use Rattle.model.specs.declared.Report.{Report}
 use Rattle.model.specs.declared.Scan.{Scan}
 use Rattle.model.specs.declared.Ring.{Ring}
@@ -179,14 +179,13 @@ use Rattle.wrong.specs.Designs.{
   writing,
   closingsFirst,
 }
-use Rattle.model.specs.Values.{partCode, samePart}
+use Rattle.model.specs.Values.{firstCode, partCode, samePart, wordNumber}
 use Rattle.model.specs.Priority.{others, sources, pathBusBreakers, pathBreakers, pathParts, highRises, pathsFrom, paths}
 use Rattle.model.specs.Refusals.{
   firstMet,
   sizeOutside,
   notOfRing,
   wordOfOtherKind,
-  generatorFitAgain,
   tooShort,
   healthOutside,
   activeAbove,
@@ -210,9 +209,16 @@ generator2Off = report (Generator 2) StuckOff
 abbrev generator3Off : Report
 generator3Off = report (Generator 3) StuckOff
 
--- G1 fit again, a word that no generator has
+-- G1 stuck open, a word that no generator has
+abbrev generator1Open : Report
+generator1Open = report (Generator 1) StuckOpen
+
+-- G1 fit again, and G3
 abbrev generator1Fit : Report
 generator1Fit = report (Generator 1) Fit
+
+abbrev generator3Fit : Report
+generator3Fit = report (Generator 3) Fit
 
 -- G4 stuck off, a part that no ring of three has
 abbrev generator4Off : Report
@@ -435,6 +441,40 @@ asksFirstStep =
     scanSpoilt (λ ring s buffer reply.
     cond (tooShort (length buffer) (nextSheet (toldAll ring (take 1 (scanReports s))))) (refusedReply 8 ring buffer) reply)
 
+-- a generator's return
+unfoldable pub isReturn : Report → Bool
+isReturn r = eqb (firstCode (r .part)) 0 && eqb (wordNumber (r .word)) 0
+
+-- gives 7 to a generator's return, in a step or in a scan
+unfoldable pub refusesReturns : Controller
+refusesReturns = stepSpoilt (λ ring r buffer reply. cond (isReturn r) (refusedReply 7 ring buffer) reply)
+
+unfoldable pub refusesReturnsInScans : Controller
+refusesReturnsInScans = scanSpoilt (λ ring s buffer reply. cond (anyOf isReturn (scanReports s)) (refusedReply 7 ring buffer) reply)
+
+-- leaves a generator off that returns, in a step or in a scan
+unfoldable pub keepsOff : Controller
+keepsOff = stepSpoilt (λ ring r buffer reply. cond (isReturn r) (servedReply ring buffer) reply)
+
+unfoldable pub keepsOffInScans : Controller
+keepsOffInScans = scanServingBy (λ s. keep (λ r. not (isReturn r)) (scanReports s))
+
+-- records that a generator is fit again, and stays with the generators that run
+unfoldable pub passesReturned : Controller
+passesReturned =
+    stepSpoilt (λ ring r buffer reply.
+    cond (isReturn r) (withRing (λ old. record { n = old .n; health = told ring r .health; commands = old .commands }) (servedReply ring buffer)) reply)
+
+-- lets the orders of a failed generator stand, which cannot run: opens and stops nothing
+unfoldable pub leavesOrders : Controller
+leavesOrders =
+    stepSpoilt (λ ring r buffer reply.
+    let old = commandsOf (ring .commands) in
+    let new = planned (told ring r) in
+    cond (isReturn r) (servedReply (told ring r) buffer)
+    (withRing (λ next. record { n = next .n; health = next .health; commands = commandPlaces (λ p. old p || new p) })
+    (withBuffer (λ bytes. written (sheetOf [] (closing (ring .n) old new)) bytes) reply)))
+
 -- shows the choices of a ring of three without faults, or none
 unfoldable pub fitChoices : Reply → Reply
 fitChoices reply = withChoices (choices 3 allFit) reply
@@ -493,7 +533,7 @@ wrongRefusals =
     row refusesReports claim.only (after [] generator1Off)
     ∷ row servesReports claim.always (after [] generator4Off)
     ∷ row servesReports claim.always (after [] breaker1Off)
-    ∷ row servesReports claim.always (after [] generator1Fit)
+    ∷ row servesReports claim.always (after [] generator1Open)
     ∷ row servesReports claim.always (handed [] breaker2Open (replicate 5 0))
     ∷ row (stepRefusing (withRing idleRing)) claim.record-kept (after [] generator4Off)
     ∷ row (stepRefusing (withBuffer firstByte)) claim.buffer-kept (after [] generator4Off)
@@ -584,8 +624,24 @@ wrongScans =
     ∷ row (scanWrites 0 1 ((99, 1) ∷ [])) claim.ends-after (scanning twoFaults)
     ∷ []
 
+-- generators that return: refused by 7, left off, passed over though first in priority, or started before the sheet does
+unfoldable pub wrongReturns : List Row3
+wrongReturns =
+    row refusesReturns claim.only (after [] generator1Fit)
+    ∷ row refusesReturns claim.only (after (generator1Off ∷ []) generator1Fit)
+    ∷ row refusesReturnsInScans claim.only (scanning (scanOf (generator1Off ∷ generator1Fit ∷ [])))
+    ∷ row keepsOff claim.health (after (generator1Off ∷ []) generator1Fit)
+    ∷ row keepsOff claim.dark-exactly (after (generator3Off ∷ generator2Off ∷ generator1Off ∷ []) generator3Fit)
+    ∷ row keepsOffInScans claim.health (calling (nothing then step generator1Off fullRoom) (scan (scanOf (generator1Fit ∷ [])) fullRoom))
+    ∷ row passesReturned claim.choices-are (after (generator1Off ∷ []) generator1Fit)
+    ∷ row passesReturned claim.dark-exactly (after (generator3Off ∷ generator2Off ∷ generator1Off ∷ []) generator1Fit)
+    ∷ row leavesOrders claim.clash-in-first (halted 0 (after (generator1Off ∷ []) generator1Fit))
+    ∷ []
+
 unfoldable pub wrongs3 : List Row3
-wrongs3 = wrongDesigns ++ (wrongStarts ++ (wrongRefusals ++ (wrongSteps ++ (wrongMoments ++ (wrongScanRefusals ++ wrongScans)))))
+wrongs3 =
+    wrongDesigns
+    ++ (wrongStarts ++ (wrongRefusals ++ (wrongSteps ++ (wrongMoments ++ (wrongScanRefusals ++ (wrongScans ++ wrongReturns))))))
 
 -- the wrong controller fails the claim
 unfoldable pub refuted3 : Row3 → Bool
@@ -634,6 +690,12 @@ clashesNowhere k =
     let i = halted k (after [] breaker2Open) in
     not (fails3 c i claim.clash-in-first) && not (fails3 c i claim.clash-in-second)
 
+-- ---- a generator that starts as it returns
+
+-- the controller that lets orders stand, while G1 is off
+unfoldable pub quietWhileOff : Claim3 → Bool
+quietWhileOff k = not (fails3 leavesOrders (after [] generator1Off) k)
+
 -- ---- what is computed
 
 -- every computed fact about these controllers
@@ -643,6 +705,10 @@ record Computed : Type 0 where
   -- the order of the operations is what is wrong with the fourth and fifth controller of `wrongMoments`: in the sheet's own order
   -- they clash nowhere
   in-sheet-order : allOf clashesNowhere (0 ∷ 1 ∷ 2 ∷ []) ≡ true
+  -- the return is what is wrong with the controller of the last row of `wrongReturns`: before it nothing clashes, and every bus is fed as
+  -- shown
+  quiet-while-off : allOf quietWhileOff
+      (claim.clash-in-first ∷ claim.clash-in-second ∷ claim.clash-between ∷ claim.energized ∷ claim.de-energized ∷ []) ≡ true
   -- the exception is needed, n = 3 after the start, BB1 stuck closed: before the first operation, at an excepted moment, B1 is fed
   -- by two generators
   exception-needed : (P : PlantState)
@@ -658,7 +724,7 @@ computed : Computed
 unfolding below keep first anyOf allOf partCode samePart parts healthOfKind next up arc connected feeds feeders feedBy busFeed others
     sources pathBusBreakers pathBreakers pathParts highRises pathsFrom paths onPaths usable countedClosed isolated permitted choose
     addPath chosen plan commands choiceOf choices opening closing sheetOf sheet written partNamed reported places healthOf commandsOf
-    healthPlaces commandPlaces blankRing told planned withPlan firstMet sizeOutside notOfRing wordOfOtherKind generatorFitAgain tooShort
+    healthPlaces commandPlaces blankRing told planned withPlan firstMet sizeOutside notOfRing wordOfOtherKind tooShort
     healthOutside activeAbove unplanned badRecord nextSheet reportConditions startRefusal stepRefusal allDark refusedAnswer refusedReply
     servedAnswer servedReply startReply stepReply afterWord afterWords perform performAll commandNamed withOperation operations phasesAt
     decode excepted wordRefusal earlier ordered bothPhases worldAfter afterCall run sum digest ringSum choiceNumber choicesSum
@@ -674,11 +740,13 @@ unfolding below keep first anyOf allOf partCode samePart parts healthOfKind next
     wrongs2 refuted2 clashesNowhere countAbove sheetRefusal toldAll firstRefusal scanRefusal scanReply callNumber designScan scanSpoilt
     scanOf countedAs calling scanning scanRefusing scanServing scanWrites scanTelling scanServingBy lastOf backwards beforeLast
     takesLastWord sendsLastSheet takesWordsBackwards readsPastCount servesScans refuses64 refusesByLast asksFirstStep wrongScanRefusals
-    wrongScans goodFront servesBeforeBad
+    wrongScans goodFront servesBeforeBad isReturn refusesReturns refusesReturnsInScans keepsOff keepsOffInScans passesReturned leavesOrders
+    wrongReturns quietWhileOff
 computed = record {
   refuted-3 = refl;
   refuted-2 = refl;
   in-sheet-order = refl;
+  quiet-while-off = refl;
   exception-needed = (
     _,
     in-call (step breaker1Closed fullRoom) whole (run-ended controller false 3 fullRoom nothing _ refl) refl refl

@@ -28,7 +28,6 @@ use Rattle.model.specs.Refusals.{
   sizeOutside,
   notOfRing,
   wordOfOtherKind,
-  generatorFitAgain,
   tooShort,
   badRecord,
   countAbove,
@@ -340,11 +339,10 @@ not-in-ring n p small e r = go (or-cases (ltb (number p) 1) (ltb (min n largest)
     go (inl q) = omega (arith, ltb-true (number p) 1 q, r .0)
     go (inr q) = omega (arith, ltb-true (min n largest) (number p) q, r .1)
 
--- refusals 6 and 7, by cases
+-- refusal 6, by cases
 word-refusal : (p : Part) (w : Word) (x : ℕ)
-    → cond (wordOfOtherKind p (wordNumber w)) 6 (cond (generatorFitAgain p (wordNumber w)) 7 x) ≡ cond (eqb (wordRefusal p w) 0) x
-    (wordRefusal p w)
-unfolding wordOfOtherKind generatorFitAgain wordRefusal
+    → cond (wordOfOtherKind p (wordNumber w)) 6 x ≡ cond (eqb (wordRefusal p w) 0) x (wordRefusal p w)
+unfolding wordOfOtherKind wordRefusal
 word-refusal (Generator k) Fit x = refl
 word-refusal (Generator k) StuckOff x = refl
 word-refusal (Generator k) StuckOpen x = refl

@@ -276,9 +276,9 @@ pub record AsChosen (n : ℕ) (P : PlantState) (reply : Reply) : Type 0 where
   pub first-is : phases .first ≡ map (operation false) (opening n (P .last) (commands n (P .health)))
   pub second-is : phases .second ≡ map (operation true) (closing n (P .last) (commands n (P .health)))
 
--- refusals 6 and 7 by part and word, 0 where neither meets them
+-- refusal 6 by part and word, 0 where it does not meet them; "word 0 makes a generator fit again" (document 02, Note 3)
 unfoldable pub wordRefusal : Part → Word → ℕ
-wordRefusal (Generator k) Fit = 7
+wordRefusal (Generator k) Fit = 0
 wordRefusal (Generator k) StuckOff = 0
 wordRefusal (Generator k) StuckOpen = 6
 wordRefusal (Generator k) StuckClosed = 6
@@ -301,7 +301,7 @@ pub data StartMeets (n room : ℕ) : ℕ → Type 0 where
   too-large : largest < n → StartMeets n room 2
   too-short : smallest ≤ n → n ≤ largest → room < sheetFor n freshPlant → StartMeets n room 8
 
--- "each 5, 6, 7": the refusal that meets a report alone
+-- "each 5, 6, 7", without 7 now: the refusal that meets a report alone
 pub data Bad (n : ℕ) (r : Report) : ℕ → Type 0 where
   no-part : (InRing n (r .part) → ⊥) → Bad n r 5
   no-word : {k : ℕ} → InRing n (r .part) → wordRefusal (r .part) (r .word) ≡ suc k → Bad n r (suc k)
@@ -321,7 +321,7 @@ pub data AllGood (n : ℕ) : List Report → Type 0 where
   no-reports : AllGood n []
   good-and : {r : Report} {rs : List Report} → Good n r → AllGood n rs → AllGood n (r ∷ rs)
 
--- "A step checks 9, 5, 6, 7, 8"; "11 for a count above 64, after 9 and before the reports; 8 is checked last, for the scan's own
+-- "A step checks 9, 5, 6, 7, 8", without 7 now; "11 for a count above 64, after 9 and before the reports; 8 is checked last, for the scan's own
 -- sheet": the refusal that meets a call of the list; 9 meets none
 pub data Meets (n : ℕ) (P : PlantState) (call : Call) : ℕ → Type 0 where
   too-many : 64 < count call → Meets n P call 11

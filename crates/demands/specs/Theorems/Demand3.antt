@@ -125,7 +125,7 @@ use Rattle.demands.specs.Proofs.Answering.{
 -- a word that is not refused brings about a health of its part's kind
 word-of-kind : (p : Part) (w : Word) → wordRefusal p w ≡ 0 → healthOfKind p (wordNumber w) ≡ true
 unfolding wordRefusal healthOfKind
-word-of-kind (Generator k) Fit e = absurd (omega arith)
+word-of-kind (Generator k) Fit e = refl
 word-of-kind (Generator k) StuckOff e = refl
 word-of-kind (Generator k) StuckOpen e = absurd (omega arith)
 word-of-kind (Generator k) StuckClosed e = absurd (omega arith)
@@ -180,7 +180,7 @@ all-kinds small k no-reports = k
 all-kinds small k (good-and {r = r} g a) = all-kinds small (told-kinds small k r g) a
 
 -- what a buffer decodes to is one thing
-same-phases : {o : Option Phases} {x y : Phases} → o ≡ some x → o ≡ some y → x ≡ y
+pub same-phases : {o : Option Phases} {x y : Phases} → o ≡ some x → o ≡ some y → x ≡ y
 same-phases {o} {x} {y} p q = cc
 
 module _ (n : ℕ) (buffer : List ℕ) (big : smallest ≤ n) (small : n ≤ largest) where
@@ -268,7 +268,7 @@ as-chosen {n} {P} a = record {
 -- ---- interruptions
 
 -- words that stick no breaker closed
-words-last : (rs : List Report) (P : PlantState) → afterWords rs P .last ≡ P .last
+pub words-last : (rs : List Report) (P : PlantState) → afterWords rs P .last ≡ P .last
 unfolding afterWords afterWord
 words-last [] P = refl
 words-last (r ∷ rs) P = words-last rs (afterWord r P)

@@ -10,7 +10,7 @@ use borrow.Author.Tests.{lt-ltb, eqb-true, not-false}
 use Rattle.model.specs.declared.Part.{Part}
 use Rattle.model.specs.declared.Part.the-variants.{Generator, GeneratorBreaker, BusBreaker}
 use Rattle.model.specs.declared.Word.{Word}
-use Rattle.model.specs.declared.Word.the-variants.{StuckOff, StuckOpen, StuckClosed}
+use Rattle.model.specs.declared.Word.the-variants.{Fit, StuckOff, StuckOpen, StuckClosed}
 use Rattle.model.specs.declared.Report.{Report}
 use Rattle.model.specs.declared.Ring.{Ring}
 use Rattle.model.specs.Lists.{anyOf, _∈_}
@@ -145,6 +145,22 @@ ring-ext n H K small same = λ i. record {
     inside : Agree n H K
     inside p r = same p (r .0, omega (arith, r .1))
 
+-- the arrays of a record are those of a health that it holds
+pub health-is : (ring : Ring) → Arrays ring → (H : PartHealth) → ((p : Part) → InRing largest p → healthOf (ring .health) p ≡ H p)
+    → ring .health ≡ healthPlaces H
+unfolding healthPlaces healthOf
+health-is ring arrays H same = λ i. record {
+  generators =
+      is-places (λ j. H (generator j)) (ring .health .generators) 0 (arrays .generators)
+      (λ j l. same (generator j) (at-index largest j l)) i;
+  «generator_breakers» =
+      is-places (λ j. H (generatorBreaker j)) (ring .health .«generator_breakers») 0 (arrays .generator-breakers)
+      (λ j l. same (generatorBreaker j) (at-index largest j l)) i;
+  «bus_breakers» =
+      is-places (λ j. H (busBreaker j)) (ring .health .«bus_breakers») 0 (arrays .bus-breakers)
+      (λ j l. same (busBreaker j) (at-index largest j l)) i;
+}
+
 -- a good report and full room: served
 pub served-step : {n : ℕ} {W : World} → smallest ≤ n → n ≤ largest → Steady n W → (r : Report) → Good n r
     → isServed (stepReply (W .ring) r fullRoom) ≡ true
@@ -161,32 +177,32 @@ unfolding servedReply servedAnswer toldAll
 stepped-ring {W = W} big small s r good =
     ap (λ (x : Reply). x .answer .ring) (call-served (W .ring) (step r fullRoom) (served-step big small s r good))
 
--- a word for a part's health, unless the part is fit
+-- a word for a part's health
 Spoken : Part → ℕ → Type 0
-Spoken p h = (h ≡ 0) ⊎ ((w : Word) × (wordNumber w ≡ h) × (wordRefusal p w ≡ 0))
+Spoken p h = (w : Word) × (wordNumber w ≡ h) × (wordRefusal p w ≡ 0)
 
-breaker-word : (p : Part) (h : ℕ) → wordRefusal p StuckOpen ≡ 0 → wordRefusal p StuckClosed ≡ 0
+breaker-word : (p : Part) (h : ℕ) → wordRefusal p Fit ≡ 0 → wordRefusal p StuckOpen ≡ 0 → wordRefusal p StuckClosed ≡ 0
     → fit h || stuckOpen h || stuckClosed h ≡ true → Spoken p h
 unfolding Spoken
-breaker-word p h o c e = go (or-cases (fit h || stuckOpen h) (stuckClosed h) e)
+breaker-word p h f o c e = go (or-cases (fit h || stuckOpen h) (stuckClosed h) e)
   where
     early : (fit h ≡ true) ⊎ (stuckOpen h ≡ true) → Spoken p h
-    early (inl q) = inl (eqb-true h 0 q)
-    early (inr q) = inr (StuckOpen, sym (eqb-true h 2 q), o)
+    early (inl q) = (Fit, sym (eqb-true h 0 q), f)
+    early (inr q) = (StuckOpen, sym (eqb-true h 2 q), o)
 
     go : (fit h || stuckOpen h ≡ true) ⊎ (stuckClosed h ≡ true) → Spoken p h
     go (inl q) = early (or-cases (fit h) (stuckOpen h) q)
-    go (inr q) = inr (StuckClosed, sym (eqb-true h 3 q), c)
+    go (inr q) = (StuckClosed, sym (eqb-true h 3 q), c)
 
 word-for : (p : Part) (h : ℕ) → healthOfKind p h ≡ true → Spoken p h
 unfolding healthOfKind wordRefusal Spoken
 word-for (Generator k) h e = go (or-cases (fit h) (stuckOff h) e)
   where
     go : (fit h ≡ true) ⊎ (stuckOff h ≡ true) → Spoken (Generator k) h
-    go (inl q) = inl (eqb-true h 0 q)
-    go (inr q) = inr (StuckOff, sym (eqb-true h 1 q), refl)
-word-for (GeneratorBreaker k) h e = breaker-word (GeneratorBreaker k) h refl refl e
-word-for (BusBreaker k) h e = breaker-word (BusBreaker k) h refl refl e
+    go (inl q) = (Fit, sym (eqb-true h 0 q), refl)
+    go (inr q) = (StuckOff, sym (eqb-true h 1 q), refl)
+word-for (GeneratorBreaker k) h e = breaker-word (GeneratorBreaker k) h refl refl refl e
+word-for (BusBreaker k) h e = breaker-word (BusBreaker k) h refl refl refl e
 
 start-begun : (n : ℕ) → smallest ≤ n → n ≤ largest → isServed (startReply n fullRoom) ≡ true
 start-begun n big small =
@@ -205,20 +221,6 @@ module _ (n : ℕ) (big : smallest ≤ n) (small : n ≤ largest) (H : PartHealt
   -- the health H of the parts ps, all others fit
   partial : List Part → PartHealth
   partial ps q = cond (anyOf (samePart q) ps) (H q) 0
-
-  -- a part that is fit adds nothing
-  skip : (p : Part) (ps : List Part) → H p ≡ 0 → ringFor n (partial ps) ≡ ringFor n (partial (p ∷ ps))
-  unfolding partial anyOf
-  skip p ps e = ring-ext n (partial ps) (partial (p ∷ ps)) small (λ q i. go q (dec (samePart q p)))
-    where
-      fits : (b : Bool) (h : ℕ) → h ≡ 0 → cond b h 0 ≡ h
-      fits true h z = refl
-      fits false h z = sym z
-
-      go : (q : Part) → (samePart q p ≡ true) ⊎ (samePart q p ≡ false)
-          → cond (anyOf (samePart q) ps) (H q) 0 ≡ cond (samePart q p || anyOf (samePart q) ps) (H q) 0
-      go q (inl t) = let z = ap H (same-eq q p t) ∙ e in rw t (fits (anyOf (samePart q) ps) (H q) z)
-      go q (inr t) = rw t
 
   -- one report more
   add : (p : Part) (ps : List Part) (w : Word) → wordNumber w ≡ H p
@@ -253,11 +255,10 @@ module _ (n : ℕ) (big : smallest ≤ n) (small : n ≤ largest) (H : PartHealt
   makes : (ps : List Part) → ((p : Part) → p ∈ ps → InRing n p) → Made (ringFor n (partial ps))
   unfolding partial anyOf Spoken
   makes [] all = rw (ring-ext n allFit (partial []) small (λ q i. refl)) at (start-made n big small)
-  makes (p ∷ ps) all = go (word-for p (H p) (kinds p (all p (List·Memᴰ·head refl)))) (makes ps (λ q m. all q (List·Memᴰ·tail m)))
-    where
-      go : Spoken p (H p) → Made (ringFor n (partial ps)) → Made (ringFor n (partial (p ∷ ps)))
-      go (inl e) m = rw (skip p ps e) at m
-      go (inr w) m = step-made p ps (all p (List·Memᴰ·head refl)) (w .0) (w .1) (w .2) m
+  makes (p ∷ ps) all =
+      let i = all p (List·Memᴰ·head refl) in
+      let w = word-for p (H p) (kinds p i) in
+      step-made p ps i (w .0) (w .1) (w .2) (makes ps (λ q m. all q (List·Memᴰ·tail m)))
 
 -- ---- a good record is made
 
@@ -373,20 +374,10 @@ module _ (ring : Ring) (arrays : Arrays ring) (good : badRecord ring ≡ false) 
       (λ q j. same-health q (j .0, omega (arith, j .1, (good-size ring good) .1))) p
 
   is-ring : ring ≡ ringFor (ring .n) K
-  unfolding ringFor healthPlaces commandPlaces healthOf commandsOf
+  unfolding ringFor commandPlaces commandsOf
   is-ring = λ i. record {
     n = (ring .n);
-    health = record {
-      generators =
-          is-places (λ j. K (generator j)) (ring .health .generators) 0 (arrays .generators)
-          (λ j l. same-health (generator j) (at-index largest j l)) i;
-      «generator_breakers» =
-          is-places (λ j. K (generatorBreaker j)) (ring .health .«generator_breakers») 0 (arrays .generator-breakers)
-          (λ j l. same-health (generatorBreaker j) (at-index largest j l)) i;
-      «bus_breakers» =
-          is-places (λ j. K (busBreaker j)) (ring .health .«bus_breakers») 0 (arrays .bus-breakers)
-          (λ j l. same-health (busBreaker j) (at-index largest j l)) i;
-    };
+    health = health-is ring arrays K same-health i;
     commands = record {
       generators =
           is-places (λ j. commands (ring .n) K (generator j)) (ring .commands .generators) false (arrays .generator-commands)

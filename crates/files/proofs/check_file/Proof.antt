@@ -40,7 +40,7 @@ length c =
     file-length _ (omega (arith, facts), sym (d .before .size-outside .ensures) ∙ d .if2 .left)
     (omega (arith, facts)) (omega (arith, facts))
 
--- 5, 6, 7
+-- 5, 6
 refused : tie.Need-returns-6
 refused c =
     let d = c .before .before .before .before .before .before .before .before .before .before in

@@ -15,7 +15,6 @@ use Rattle.model.specs.Refusals.{
   orElse,
   notOfRing,
   wordOfOtherKind,
-  generatorFitAgain,
   badRecord,
   countAbove,
   nextSheet,
@@ -35,26 +34,20 @@ or-nothing k = go (dec-eq k 0)
     go (inr e) = rw (ne-eqb k 0 e)
 
 module _ (ring : Ring) (good : badRecord ring ≡ false) where
-  -- 5, 6 and 7 come before 8
+  -- 5 and 6 come before 8
   pub step-refusal : (r : Report) (room : ℕ)
       → stepRefusal ring r room ≡ orElse (firstMet (reportConditions (ring .n) r)) (sheetRefusal room (nextSheet (told ring r)))
   unfolding stepRefusal sheetRefusal firstMet reportConditions
   step-refusal r room =
-      rw good
-      (go
-      (notOfRing (ring .n) (r .part))
-      (wordOfOtherKind (r .part) (wordNumber (r .word)))
-      (generatorFitAgain (r .part) (wordNumber (r .word))))
+      rw good (go (notOfRing (ring .n) (r .part)) (wordOfOtherKind (r .part) (wordNumber (r .word))))
     where
       eight : ℕ
       eight = sheetRefusal room (nextSheet (told ring r))
 
-      go : (five six seven : Bool)
-          → cond five 5 (cond six 6 (cond seven 7 eight)) ≡ orElse (cond five 5 (cond six 6 (cond seven 7 0))) eight
-      go true six seven = refl
-      go false true seven = refl
-      go false false true = refl
-      go false false false = refl
+      go : (five six : Bool) → cond five 5 (cond six 6 eight) ≡ orElse (cond five 5 (cond six 6 0)) eight
+      go true six = refl
+      go false true = refl
+      go false false = refl
 
   -- 11 comes before the reports, and they before 8
   pub scan-refusal : (s : Scan) (room : ℕ)
