@@ -1,4 +1,6 @@
--- What is claimed of the definitions: what a bus tries, the settled positions, and the minimal cut sets. Nothing is proved here.
+-- What is claimed of the definitions: what a bus tries, the settled positions, the minimal cut sets, and the number that is never given.
+-- Nothing is proved here.
 pub mod Priorities
 pub mod Settled
 pub mod CutSets
+pub mod Numbers

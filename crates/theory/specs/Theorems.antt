@@ -7,3 +7,4 @@ pub mod Locality
 pub mod Priorities
 pub mod Settled
 pub mod CutSets
+pub mod Numbers

@@ -34,8 +34,8 @@ use Rattle.model.specs.Plant.{
 }
 use Rattle.model.specs.Priority.{Path, pathParts}
 use Rattle.model.specs.Choosing.{onPaths, countedClosed, choose, addPath, chosen, plan, commands}
-use Rattle.model.specs.Laws.Tests.{never, contra, not-of, and-left, and-right, and-intro, or-cases, or-left, or-right, dec, dec-eq}
-use Rattle.model.specs.Laws.Lists.{below-in, below-lt, keep-at, keep-in, Rising, rising-below, rising-keep, none-some}
+use Rattle.model.specs.Laws.Tests.{never, contra, not-of, and-left, and-right, and-intro, or-cases, or-left, or-right, iff, dec, dec-eq}
+use Rattle.model.specs.Laws.Lists.{below-in, below-lt, keep-at, keep-in, keep-ext, Rising, rising-below, rising-keep, none-some}
 use Rattle.theory.specs.Theorems.Connected.{
   Arc,
   connected-leads,
@@ -171,6 +171,15 @@ feeds-less l b g hg hb e =
 pub single-less : {n : ℕ} {H K : PartHealth} {C D : PartCommands} → Less n H C K D → (b : ℕ) → b < n → Single n K D b → Single n H C b
 single-less l b hb s g h hg hh fg fh = s g h hg hh (feeds-less l b g hg hb fg) (feeds-less l b h hh hb fh)
 
+-- the same run and the same are closed: every bus is fed alike
+pub feed-alike : {n : ℕ} {H K : PartHealth} {C D : PartCommands} → Less n H C K D → Less n K D H C → (b : ℕ) → b < n
+    → busFeed n H C b ≡ busFeed n K D b
+unfolding busFeed feeders
+feed-alike {n} {H} {K} {C} {D} l m b hb = ap feedBy (keep-ext (feeds n H C b) (feeds n K D b) (below n) (λ g i. one g (below-lt n g i)))
+  where
+    one : (g : ℕ) → g < n → feeds n H C b g ≡ feeds n K D b g
+    one g hg = iff (feeds n H C b g) (feeds n K D b g) (feeds-less l b g hg hb) (feeds-less m b g hg hb)
+
 -- ---- after all commands of a plan
 
 -- a path all of whose breakers are in D leads from its generator to its bus
@@ -234,6 +243,12 @@ module _ (n : ℕ) (H : PartHealth) where
   pub commanded-at : (p : Part) → commands n H p ≡ true → (w : Path) × (w ∈ chosen n H n) × (p ∈ pathParts n w)
   unfolding commands
   commanded-at p e = on-at n all p e
+
+  -- a generator that is commanded on is fit: no standing command waits for a failed one to return
+  pub commanded-fit : (g : ℕ) → commands n H (generator g) ≡ true → fitGenerator H g ≡ true
+  commanded-fit g e =
+      let c = commanded-at (generator g) e in
+      rw (generator-on n (c .0) g (c .2)) (all-safe .usables (c .0) (c .1) .runs)
 
   commanded-in : {w : Path} (p : Part) → w ∈ all → p ∈ pathParts n w → commands n H p ≡ true
   unfolding commands

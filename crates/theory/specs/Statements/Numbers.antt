@@ -1,0 +1,47 @@
+-- Document 02, Note 3: "refusal 7 is given to no input any more." Every call that answers a refusal is named, with the answer that its
+-- contract promises; `codes::code_of` and `words::number_of` answer none, and `rings::refused` the number that it is handed.
+use mathlib.Core.Logic.{_≢_}
+use mathlib.Core.List.{List}
+use Prim.Native.Nat.{ℕ}
+use lib.ListN.{length}
+use Rattle.model.specs.declared.Report.{Report}
+use Rattle.model.specs.declared.Scan.{Scan}
+use Rattle.model.specs.declared.Health.{Health}
+use Rattle.model.specs.declared.Commands.{Commands}
+use Rattle.model.specs.declared.Ring.{Ring}
+use Rattle.model.specs.Values.{outcomeNumber, outcomeOf, partValues, wordValues, reportValues, fileValues}
+use Rattle.model.specs.Reports.{partNamed, wordNamed}
+use Rattle.model.specs.Refusals.{firstMet, reportConditions, sheetRefusal, fileRefusal}
+use Rattle.model.specs.Answers.{partAnswer, wordAnswer, reportAt, fileAnswer, feedsAnswer, startReply, stepReply}
+use Rattle.model.specs.Scans.{firstRefusal, scanReply}
+use Rattle.model.specs.CutSets.{cutSetsReply}
+use Rattle.model.specs.Text.{refusedText, printedRun}
+use Rattle.model.specs.CutText.{printedCutSets}
+use Rattle.model.specs.ScanText.{scanText}
+
+-- for every argument, the number of the answer is not k
+pub record NeverGiven (k : ℕ) : Type 0 where
+  -- files::check_file, latest::ring_after
+  pub check-file : (file : List ℕ) → fileValues (fileAnswer file) .0 ≢ k
+  pub ring-after : (file : List ℕ) → outcomeNumber (outcomeOf (fileRefusal file)) ≢ k
+  -- codes::part_of, words::word_of
+  pub part-of : (n code : ℕ) → partValues (partAnswer (partNamed n code)) .0 ≢ k
+  pub word-of : (byte : ℕ) → wordValues (wordAnswer (wordNamed byte)) .0 ≢ k
+  -- reports::report_at, reports::check_report
+  pub report-at : (n : ℕ) (codes words : List ℕ) (i : ℕ) → reportValues (reportAt n codes words i) .0 ≢ k
+  pub check-report : (n : ℕ) (r : Report) → outcomeNumber (outcomeOf (firstMet (reportConditions n r))) ≢ k
+  -- plant::feeds
+  pub feeds : (n : ℕ) (health : Health) (commands : Commands) → outcomeNumber (feedsAnswer n health commands .outcome) ≢ k
+  -- control::start, control::step, control::scan; so transition::start, transition::step, transition::scan
+  pub start : (n : ℕ) (buffer : List ℕ) → outcomeNumber (startReply n buffer .answer .outcome) ≢ k
+  pub step : (ring : Ring) (r : Report) (buffer : List ℕ) → outcomeNumber (stepReply ring r buffer .answer .outcome) ≢ k
+  pub scan : (ring : Ring) (s : Scan) (buffer : List ℕ) → outcomeNumber (scanReply ring s buffer .answer .outcome) ≢ k
+  -- scans::check, sheet::write
+  pub check : (n : ℕ) (rs : List Report) → outcomeNumber (outcomeOf (firstRefusal n rs)) ≢ k
+  pub write : (bytes buffer : List ℕ) → outcomeNumber (outcomeOf (sheetRefusal (length buffer) bytes)) ≢ k
+  -- cutsets::list
+  pub list : (ring : Ring) (bus : ℕ) (buffer : List ℕ) → outcomeNumber (cutSetsReply ring bus buffer .answer .outcome) ≢ k
+  -- run::fill, piece by piece, and ringctl; ringcuts; calls::scan_text and ringscan
+  pub printed-run : (file : List ℕ) → printedRun file ≢ refusedText k
+  pub printed-cut-sets : (file : List ℕ) → printedCutSets file ≢ refusedText k
+  pub scan-text : (i : ℕ) (ring : Ring) (s : Scan) → scanText i ring s ≢ refusedText k

@@ -1,0 +1,333 @@
+-- Document 02, Note 3: no call answers 7, and document 01's example of it is served.
+use mathlib.Core.Path.{_≡_, refl, ap}
+use mathlib.Core.Bool.{Bool, true, false, not, _&&_, cond}
+use mathlib.Core.Logic.{_≢_, _⊎_, inl, inr}
+use mathlib.Core.List.{List, [], _∷_, _++_, map, append-assoc, append-nil}
+use mathlib.Core.Option.{Option, none, some}
+use Prim.Native.Char.{code}
+use Prim.Native.Nat.{ℕ, zero, suc, _+_, _≤_, _<_, _/_, _%_}
+use native.Mathlib.Omega.{arith}
+use lib.Dec.{eqb, ltb}
+use lib.ListN.{length, getD, drop, length-append}
+use borrow.Author.Tests.{ltb-true, ltb-false, eq-eqb}
+use Rattle.model.specs.declared.Part.{Part}
+use Rattle.model.specs.declared.Word.{Word}
+use Rattle.model.specs.declared.Report.{Report}
+use Rattle.model.specs.declared.Health.{Health}
+use Rattle.model.specs.declared.Commands.{Commands}
+use Rattle.model.specs.declared.Ring.{Ring}
+use Rattle.model.specs.declared.Scan.{Scan}
+use Rattle.model.specs.declared.ReportAnswer.the-variants.{Missing}
+use Rattle.model.specs.declared.FileAnswer.the-variants.{Served}
+use Rattle.model.specs.Lists.{below, first, anyOf}
+use Rattle.model.specs.Values.{partCode, outcomeNumber, outcomeOf, partValues, wordValues, reportValues, fileValues}
+use Rattle.model.specs.Plant.{parts}
+use Rattle.model.specs.Reports.{fileSize, fileCount, fileCodes, fileWords, partNamed, wordNamed, healthOf, blankRing, told}
+use Rattle.model.specs.Refusals.{
+  firstMet,
+  orElse,
+  sizeOutside,
+  notOfRing,
+  wordOfOtherKind,
+  tooShort,
+  healthOutside,
+  badRecord,
+  busOutside,
+  countAbove,
+  reportConditions,
+  sheetRefusal,
+  startRefusal,
+  stepRefusal,
+  feedsRefusal,
+  reportOf,
+  reportAnswer,
+  reportRefusal,
+  reportsRefusal,
+  fileRefusal,
+}
+use Rattle.model.specs.Answers.{
+  Reply,
+  partAnswer,
+  wordAnswer,
+  reportAt,
+  fileAnswer,
+  feedsAnswer,
+  refusedAnswer,
+  refusedReply,
+  servedAnswer,
+  servedReply,
+  replyBy,
+  startReply,
+  stepReply,
+}
+use Rattle.model.specs.Scans.{scanReports, toldAll, firstRefusal, scanRefusal, scanReply}
+use Rattle.model.specs.CutSets.{ringCutSets, CutSetsReply, cutSetsRefusal, refusedCutSets, servedCutSets, cutSetsReply}
+use Rattle.model.specs.Text.{
+  ascii,
+  digits,
+  decimal,
+  line,
+  transitionLine,
+  header,
+  refusedText,
+  servedLines,
+  refusedLines,
+  runLines,
+  joined,
+  printedRun,
+}
+use Rattle.model.specs.CutText.{countLine, cutText, latestRing, printedCutSets}
+use Rattle.model.specs.ScanText.{sheetRoom, scanText}
+use Rattle.model.specs.Laws.Tests.{contra, dec, by-cond}
+use Rattle.model.specs.Laws.Refusals.{outcome-number}
+use Rattle.theory.specs.Statements.Numbers.{NeverGiven}
+
+-- ---- of conditions
+
+served : _≢_ {A = ℕ} 0 7
+served z = omega arith
+
+-- a condition of number j before others
+more : (met : Bool) (j k : ℕ) → not (eqb j 7) ≡ true → k ≢ 7 → cond met j k ≢ 7
+more true j k e p = λ z. contra e (ap not (eq-eqb j 7 z))
+more false j k e p = p
+
+or-never : (j k : ℕ) → j ≢ 7 → k ≢ 7 → orElse j k ≢ 7
+or-never j k p q = by-cond (λ i. i ≢ 7) (eqb j 0) (λ t. q) (λ t. p)
+
+-- ---- the refusals
+
+report-never : (n : ℕ) (r : Report) → firstMet (reportConditions n r) ≢ 7
+unfolding reportConditions firstMet
+report-never n r = more (notOfRing n (r .part)) 5 _ refl (more (wordOfOtherKind (r .part) _) 6 _ refl served)
+
+-- a report by its code and its word
+read-never : (n : ℕ) (o : Option Part) (u : Option Word) → reportValues (reportOf n o u) .0 ≢ 7
+unfolding reportOf
+read-never n none u = λ z. omega arith
+read-never n (some p) none = λ z. omega arith
+read-never n (some p) (some w) =
+    let r : Report = record { part = p; word = w } in
+    by-cond (λ a. reportValues a .0 ≢ 7) (eqb (firstMet (reportConditions n r)) 0) (λ t. served) (λ t. report-never n r)
+
+reports-never : (n : ℕ) (cs vs : List ℕ) → reportsRefusal n cs vs ≢ 7
+unfolding reportsRefusal reportRefusal reportAnswer
+reports-never n [] vs = served
+reports-never n (c ∷ cs) [] = served
+reports-never n (c ∷ cs) (v ∷ vs) = or-never _ _ (read-never n (partNamed n c) (wordNamed v)) (reports-never n cs vs)
+
+file-never : (f : List ℕ) → fileRefusal f ≢ 7
+unfolding fileRefusal firstMet
+file-never f =
+    or-never _ _
+    (more (ltb (length f) 3) 1 _ refl
+    (more (sizeOutside (fileSize f)) 2 _ refl
+    (more (ltb 4096 (fileCount f)) 3 _ refl (more (not (eqb (length f) _)) 4 _ refl served))))
+    (reports-never (fileSize f) (fileCodes f) (fileWords f))
+
+sheet-never : (room : ℕ) (bytes : List ℕ) → sheetRefusal room bytes ≢ 7
+unfolding sheetRefusal firstMet
+sheet-never room bytes = more (tooShort room bytes) 8 _ refl served
+
+first-never : (n : ℕ) (rs : List Report) → firstRefusal n rs ≢ 7
+unfolding firstRefusal
+first-never n [] = served
+first-never n (r ∷ rs) = or-never _ _ (report-never n r) (first-never n rs)
+
+start-never : (n room : ℕ) → startRefusal n room ≢ 7
+unfolding startRefusal firstMet
+start-never n room = more (sizeOutside n) 2 _ refl (more (tooShort room _) 8 _ refl served)
+
+step-never : (ring : Ring) (r : Report) (room : ℕ) → stepRefusal ring r room ≢ 7
+unfolding stepRefusal reportConditions firstMet
+step-never ring r room =
+    more (badRecord ring) 9 _ refl
+    (more (notOfRing (ring .n) (r .part)) 5 _ refl
+    (more (wordOfOtherKind (r .part) _) 6 _ refl (more (tooShort room _) 8 _ refl served)))
+
+scan-never : (ring : Ring) (s : Scan) (room : ℕ) → scanRefusal ring s room ≢ 7
+unfolding scanRefusal firstMet
+scan-never ring s room =
+    or-never _ _ (more (badRecord ring) 9 _ refl (more (countAbove (s .count)) 11 _ refl served))
+    (or-never _ _ (first-never (ring .n) (scanReports s)) (sheet-never room _))
+
+feeds-never : (n : ℕ) (h : Health) → feedsRefusal n (healthOf h) ≢ 7
+unfolding feedsRefusal firstMet
+feeds-never n h = more (sizeOutside n) 2 _ refl (more (healthOutside (healthOf h) _) 9 _ refl served)
+
+list-never : (ring : Ring) (bus room : ℕ) → cutSetsRefusal ring bus room ≢ 7
+unfolding cutSetsRefusal firstMet
+list-never ring bus room = more (badRecord ring) 9 _ refl (more (busOutside (ring .n) bus) 10 _ refl (more (tooShort room _) 8 _ refl served))
+
+-- ---- the answers
+
+outcome-never : (j : ℕ) → j ≢ 7 → outcomeNumber (outcomeOf j) ≢ 7
+outcome-never j p = rw (outcome-number j) p
+
+reply-never : (j : ℕ) (ring kept : Ring) (buffer : List ℕ) → j ≢ 7 → outcomeNumber (replyBy j ring kept buffer .answer .outcome) ≢ 7
+unfolding servedReply servedAnswer refusedReply refusedAnswer
+reply-never j ring kept buffer p =
+    by-cond (λ (x : Reply). outcomeNumber (x .answer .outcome) ≢ 7) (eqb j 0) (λ t. served) (λ t. p)
+
+named-never : (o : Option Part) → partValues (partAnswer o) .0 ≢ 7
+unfolding partAnswer
+named-never none = λ z. omega arith
+named-never (some p) = served
+
+word-never : (o : Option Word) → wordValues (wordAnswer o) .0 ≢ 7
+unfolding wordAnswer
+word-never none = λ z. omega arith
+word-never (some w) = served
+
+file-answer-never : (f : List ℕ) → fileValues (fileAnswer f) .0 ≢ 7
+unfolding fileAnswer
+file-answer-never f = by-cond (λ a. fileValues a .0 ≢ 7) (eqb (fileRefusal f) 0) (λ t. served) (λ t. file-never f)
+
+at-never : (n : ℕ) (cs vs : List ℕ) (i : ℕ) → reportValues (reportAt n cs vs i) .0 ≢ 7
+unfolding reportAt reportAnswer
+at-never n cs vs i = go (ltb i (length cs) && ltb i (length vs))
+  where
+    go : (within : Bool) → reportValues (cond within (reportAnswer n (getD cs i 0) (getD vs i 0)) Missing) .0 ≢ 7
+    go true = read-never n (partNamed n (getD cs i 0)) (wordNamed (getD vs i 0))
+    go false = served
+
+feeds-answer-never : (n : ℕ) (h : Health) (c : Commands) → outcomeNumber (feedsAnswer n h c .outcome) ≢ 7
+unfolding feedsAnswer
+feeds-answer-never n h c = outcome-never _ (feeds-never n h)
+
+list-answer-never : (ring : Ring) (bus : ℕ) (buffer : List ℕ) → outcomeNumber (cutSetsReply ring bus buffer .answer .outcome) ≢ 7
+unfolding cutSetsReply servedCutSets refusedCutSets
+list-answer-never ring bus buffer = go (cutSetsRefusal ring bus (length buffer)) (list-never ring bus (length buffer))
+  where
+    go : (j : ℕ) → j ≢ 7
+        → outcomeNumber (cond (eqb j 0) (servedCutSets (ringCutSets ring bus) buffer) (refusedCutSets j buffer) .answer .outcome) ≢ 7
+    go j p = by-cond (λ (x : CutSetsReply). outcomeNumber (x .answer .outcome) ≢ 7) (eqb j 0) (λ t. served) (λ t. p)
+
+-- ---- the texts
+
+-- a number has a digit at least
+digits-some : (d k : ℕ) → 0 < d → 0 < length (digits d k)
+unfolding digits
+digits-some zero k l = absurd (omega arith)
+digits-some (suc d) k l = go (ltb k 10)
+  where
+    go : (t : Bool) → 0 < length (cond t ((code "0" + k) ∷ []) (digits d (k / 10) ++ ((code "0" + k % 10) ∷ [])))
+    go true = omega arith
+    go false = simp length-append (omega arith)
+
+-- its first byte is a digit
+digit-first : (d k : ℕ) (rest : List ℕ) → getD (digits (suc d) k ++ rest) 0 0 ≤ 57
+unfolding digits
+digit-first zero k rest = go (dec (ltb k 10))
+  where
+    go : (ltb k 10 ≡ true) ⊎ (ltb k 10 ≡ false) → getD (cond (ltb k 10) ((code "0" + k) ∷ []) ((code "0" + k % 10) ∷ []) ++ rest) 0 0 ≤ 57
+    go (inl t) = rw t (omega (arith, ltb-true k 10 t))
+    go (inr t) = rw t (omega arith)
+digit-first (suc d) k rest = go (dec (ltb k 10)) (digit-first d (k / 10) ((code "0" + k % 10) ∷ rest))
+  where
+    go : (ltb k 10 ≡ true) ⊎ (ltb k 10 ≡ false) → getD (digits (suc d) (k / 10) ++ ((code "0" + k % 10) ∷ rest)) 0 0 ≤ 57
+        → getD (cond (ltb k 10) ((code "0" + k) ∷ []) (digits (suc d) (k / 10) ++ ((code "0" + k % 10) ∷ [])) ++ rest) 0 0 ≤ 57
+    go (inl t) h = rw t (omega (arith, ltb-true k 10 t))
+    go (inr t) h = rw (t, append-assoc (digits (suc d) (k / 10)) ((code "0" + k % 10) ∷ []) rest) h
+
+-- only the number 7 reads `refused 7`
+text-never : (j : ℕ) → j ≢ 7 → refusedText j ≢ refusedText 7
+unfolding refusedText decimal ascii digits
+text-never j p e = go (dec (ltb j 10)) (ap (drop 8) e)
+  where
+    front : List ℕ
+    front = digits j (j / 10)
+
+    last : List ℕ
+    last = (code "0" + j % 10) ∷ []
+
+    long : 10 ≤ j → length ((front ++ last) ++ (10 ∷ [])) ≡ 2 → ⊥
+    long l q = omega (arith, length-append (front ++ last) (10 ∷ []), length-append front last, digits-some j (j / 10) (omega arith))
+
+    go : (ltb j 10 ≡ true) ⊎ (ltb j 10 ≡ false) → cond (ltb j 10) ((code "0" + j) ∷ []) (front ++ last) ++ (10 ∷ []) ≡ 55 ∷ 10 ∷ [] → ⊥
+    go (inl t) q = p (let f : code "0" + j ≡ 55 = ap (λ l. getD l 0 0) (rw t at q) in omega arith)
+    go (inr t) q = long (ltb-false j 10 t) (ap length (rw t at q))
+
+-- a served run begins with `ring`
+run-never : (f : List ℕ) → printedRun f ≢ refusedText 7
+unfolding printedRun runLines servedLines refusedLines joined header refusedText ascii
+run-never f = by-cond (λ ls. joined ls ≢ refusedText 7) (eqb (fileRefusal f) 0) (λ t e. ring e) (λ t. refused)
+  where
+    ring : joined (servedLines f) ≡ refusedText 7 → ⊥
+    ring e = let second : code "i" ≡ code "e" = ap (λ l. getD l 1 0) e in omega arith
+
+    refused : joined (refusedLines (fileRefusal f)) ≢ refusedText 7
+    refused = rw (append-nil (refusedText (fileRefusal f))) (text-never (fileRefusal f) (file-never f))
+
+-- served cut sets begin with a bus
+buses-never : (sets : ℕ → List (List Part)) (bs : List ℕ) → joined (map (λ b. cutText (suc b) (sets b)) bs) ≢ refusedText 7
+unfolding joined cutText countLine refusedText ascii
+buses-never sets [] e = let first : 0 ≡ code "r" = ap (λ l. getD l 0 0) e in omega arith
+buses-never sets (b ∷ bs) e = let first : code "B" ≡ code "r" = ap (λ l. getD l 0 0) e in omega arith
+
+cuts-never : (f : List ℕ) → printedCutSets f ≢ refusedText 7
+unfolding printedCutSets
+cuts-never f =
+    by-cond (λ text. text ≢ refusedText 7) (eqb (fileRefusal f) 0) (λ t. buses-never (λ b. ringCutSets (latestRing f) (suc b)) (below (fileSize f)))
+    (λ t. text-never (fileRefusal f) (file-never f))
+
+-- a served scan's line begins with its number
+begins : (i : ℕ) (rest text : List ℕ) → decimal i ++ rest ≡ text → getD text 0 0 ≤ 57
+unfolding decimal
+begins i rest text e = rw (← e) (digit-first i i rest)
+
+line-never : (i : ℕ) (ring : Ring) → transitionLine i ring ≢ refusedText 7
+unfolding transitionLine line refusedText ascii
+line-never i ring e = let first : code "r" ≤ 57 = begins i _ (refusedText 7) e in omega arith
+
+scan-text-never : (i : ℕ) (ring : Ring) (s : Scan) → scanText i ring s ≢ refusedText 7
+unfolding scanText
+scan-text-never i ring s =
+    by-cond (λ text. text ≢ refusedText 7) (eqb (scanRefusal ring s sheetRoom) 0) (λ t. line-never i (toldAll ring (scanReports s)))
+    (λ t. text-never (scanRefusal ring s sheetRoom) (scan-never ring s sheetRoom))
+
+-- ---- "refusal 7 is given to no input any more"
+
+pub never-seven : NeverGiven 7
+unfolding startReply stepReply scanReply
+never-seven = record {
+  check-file = file-answer-never;
+  ring-after = λ file. outcome-never (fileRefusal file) (file-never file);
+  part-of = λ n code. named-never (partNamed n code);
+  word-of = λ byte. word-never (wordNamed byte);
+  report-at = at-never;
+  check-report = λ n r. outcome-never _ (report-never n r);
+  feeds = feeds-answer-never;
+  start = λ n buffer. reply-never _ (blankRing n) (blankRing 0) buffer (start-never n (length buffer));
+  step = λ ring r buffer. reply-never _ (told ring r) ring buffer (step-never ring r (length buffer));
+  scan = λ ring s buffer. reply-never _ (toldAll ring (scanReports s)) ring buffer (scan-never ring s (length buffer));
+  check = λ n rs. outcome-never _ (first-never n rs);
+  write = λ bytes buffer. outcome-never _ (sheet-never (length buffer) bytes);
+  list = list-answer-never;
+  printed-run = run-never;
+  printed-cut-sets = cuts-never;
+  scan-text = scan-text-never;
+}
+
+-- document 01's example of 7, `3 1 0 0 0`, is served
+pub example-served : fileAnswer (3 ∷ 1 ∷ 0 ∷ 0 ∷ 0 ∷ []) ≡ Served 3 1
+unfolding fileAnswer fileRefusal firstMet sizeOutside reportsRefusal reportRefusal reportAnswer reportOf reportConditions notOfRing wordOfOtherKind
+    partNamed partCode parts below first wordNamed
+example-served = refl
+
+-- every other number of document 01's table is given
+pub others-given : (NeverGiven 1 → ⊥) × (NeverGiven 2 → ⊥) × (NeverGiven 3 → ⊥) × (NeverGiven 4 → ⊥) × (NeverGiven 5 → ⊥)
+    × (NeverGiven 6 → ⊥) × (NeverGiven 8 → ⊥) × (NeverGiven 9 → ⊥)
+unfolding fileAnswer fileRefusal firstMet sizeOutside reportsRefusal reportRefusal reportAnswer reportOf reportConditions notOfRing wordOfOtherKind
+    partNamed partCode parts below first wordNamed outcomeOf sheetRefusal tooShort cutSetsReply cutSetsRefusal badRecord anyOf blankRing
+    refusedCutSets
+others-given = (
+  λ never. never .check-file (3 ∷ 0 ∷ []) refl,
+  λ never. never .check-file (2 ∷ 0 ∷ 0 ∷ []) refl,
+  λ never. never .check-file (3 ∷ 1 ∷ 16 ∷ []) refl,
+  λ never. never .check-file (3 ∷ 1 ∷ 0 ∷ 64 ∷ []) refl,
+  λ never. never .check-file (3 ∷ 1 ∷ 0 ∷ 3 ∷ 1 ∷ []) refl,
+  λ never. never .check-file (3 ∷ 1 ∷ 0 ∷ 64 ∷ 1 ∷ []) refl,
+  λ never. never .write (0 ∷ 0 ∷ []) (0 ∷ []) refl,
+  λ never. never .list (blankRing 2) 1 [] refl,
+)
