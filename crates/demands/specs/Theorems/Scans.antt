@@ -188,7 +188,7 @@ module _ (ring : Ring) (good : badRecord ring ≡ false) (s : Scan) (few : s .co
 -- ---- "No reports means the record as it was, the choices it calls for and two empty waves."
 
 -- nothing changes between a good record's standing commands and those that it calls for
-still : (ring : Ring) → badRecord ring ≡ false → nextSheet ring ≡ 0 ∷ 0 ∷ []
+pub still : (ring : Ring) → badRecord ring ≡ false → nextSheet ring ≡ 0 ∷ 0 ∷ []
 unfolding nextSheet sheet sheetOf opening closing planned
 still ring good =
     rw (

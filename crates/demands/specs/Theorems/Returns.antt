@@ -1,0 +1,229 @@
+-- Document 02, Note 3: a generator that returns. Of every controller that meets demand 3: nothing starts or closes before the sheet says so,
+-- and a dark bus is judged by the health after the latest word. Of ours: a word that repeats the present health changes nothing, and a part
+-- that fails and returns leaves the very record and the choices from before.
+use mathlib.Core.Path.{_≡_, refl, sym, _∙_, ap}
+use mathlib.Core.Bool.{Bool, true, false, cond}
+use mathlib.Core.Logic.{_⊎_, inl, inr}
+use mathlib.Core.List.{List, [], _∷_}
+use mathlib.Core.Option.{some}
+use Prim.Native.Nat.{ℕ, _≤_, _<_}
+use native.Mathlib.Omega.{arith}
+use lib.ListN.{length}
+use borrow.Author.Tests.{eqb-true}
+use Rattle.model.specs.declared.Part.{Part}
+use Rattle.model.specs.declared.Part.the-variants.{Generator}
+use Rattle.model.specs.declared.Word.{Word}
+use Rattle.model.specs.declared.Word.the-variants.{Fit}
+use Rattle.model.specs.declared.Report.{Report}
+use Rattle.model.specs.declared.Ring.{Ring}
+use Rattle.model.specs.declared.RingAnswer.{RingAnswer}
+use Rattle.model.specs.declared.Outcome.the-variants.{Served}
+use Rattle.model.specs.Values.{samePart, wordNumber}
+use Rattle.model.specs.Plant.{PartHealth, largest, generator, generatorBreaker, busBreaker, fitGenerator, running, InRing}
+use Rattle.model.specs.Choosing.{commands}
+use Rattle.model.specs.Sheet.{written}
+use Rattle.model.specs.Reports.{reported, healthOf, commandsOf, healthPlaces, told, planned, withPlan}
+use Rattle.model.specs.Refusals.{badRecord, nextSheet}
+use Rattle.model.specs.Answers.{Reply, servedAnswer, servedReply, stepReply}
+use Rattle.model.specs.Scans.{toldAll}
+use Rattle.model.specs.Laws.Tests.{and-right, and-intro, dec}
+use Rattle.model.specs.Laws.Parts.{at-index, same-eq, health-places}
+use Rattle.model.specs.Laws.Refusals.{good-size}
+use Rattle.theory.specs.Theorems.Feeds.{Less, feed-alike, commanded-fit}
+use Rattle.demands.specs.Statements.Demand3.{
+  Controller,
+  PlantState,
+  afterWord,
+  afterWords,
+  Phases,
+  decode,
+  step,
+  Calls,
+  isServed,
+  World,
+  Performed,
+  performed,
+  Ended,
+  started,
+  served,
+  refused,
+  whole,
+  AsChosen,
+  Good,
+  no-reports,
+  good-and,
+  Demand3,
+}
+use Rattle.demands.specs.Statements.Returns.{Returns, none-returns, returns, Idle}
+use Rattle.demands.specs.Proofs.Operations.{perform-health, any-order}
+use Rattle.demands.specs.Statements.Records.{Arrays}
+use Rattle.demands.specs.Statements.Scans.{calledFor}
+use Rattle.demands.specs.Proofs.Steady.{both-done, sheet-is}
+use Rattle.demands.specs.Proofs.Answering.{fullRoom, CallFine, call-ready, fine-served, call-served}
+use Rattle.demands.specs.Theorems.Demand3.{same-phases, words-last}
+use Rattle.demands.specs.Theorems.Records.{health-is, served-step, plan-kept, good-steady, call-good}
+use Rattle.demands.specs.Theorems.Scans.{still}
+
+-- ---- what stands when the orders have ended
+
+-- "A dark bus is judged by the generators fit after the latest word": the strokes alter no health
+pub judged-after : {ph : Phases} {P Q : PlantState} → Performed ph P Q → Q .health ≡ P .health
+judged-after {P = P} (performed {xs = xs} {ys = ys} ax ay) = perform-health ys _ ∙ perform-health xs P
+
+-- the orders of a call that is document 01's for a plant leave the commands of its plan
+performed-planned : {n : ℕ} {P Q : PlantState} {ph : Phases} {reply : Reply} → AsChosen n P reply → decode n (reply .buffer) ≡ some ph
+    → Performed ph P Q → (p : Part) → InRing n p → Q .last p ≡ commands n (Q .health) p
+performed-planned {n} {P} a d (performed {xs = xs} {ys = ys} ax ay) p i =
+    let z = same-phases d (a .decodes) in
+    let dx = rw (z, a .first-is) at (any-order ax) in
+    let dy = rw (z, a .second-is) at (any-order ay) in
+    both-done n P (commands n (P .health)) xs ys dx dy p i
+    ∙ ap (λ K. commands n K p) (sym (judged-after (performed ax ay)))
+
+module _ {c : Controller} (meets : Demand3 c) (n : ℕ) (buffer : List ℕ) (begun : isServed (c .start n buffer) ≡ true) where
+  -- after every call, served or refused, the last orders are those that the plant's health calls for
+  pub ended-planned : {calls : Calls} {W : World} → Ended c n buffer calls W → (p : Part) → InRing n p
+      → W .plant .last p ≡ commands n (W .plant .health) p
+  ended-planned {calls} (started e d q) p i = performed-planned (meets .holds n buffer begun calls .start-chosen) d q p i
+  ended-planned {calls} (served call h e d q) p i =
+      performed-planned (meets .holds n buffer begun calls .chosen call whole h e) d q p i
+  ended-planned (refused call h e) p i = ended-planned h p i
+
+  -- a generator that is ordered on is fit
+  ordered-fit : {calls : Calls} {W : World} → Ended c n buffer calls W → (g : ℕ) → g < n → W .plant .last (generator g) ≡ true
+      → fitGenerator (W .plant .health) g ≡ true
+  ordered-fit {W = W} h g hg e =
+      commanded-fit n (W .plant .health) g (sym (ended-planned h (generator g) (at-index n g hg)) ∙ e)
+
+-- ---- what returns do before the first stroke
+
+-- a fit part stays fit
+fit-stays : {rs : List Report} → Returns rs → (P : PlantState) (p : Part) → P .health p ≡ 0 → afterWords rs P .health p ≡ 0
+unfolding afterWords afterWord
+fit-stays none-returns P p e = e
+fit-stays (returns {rs = rs} k r) P p e = fit-stays r (afterWord (record { part = Generator k; word = Fit }) P) p (go (samePart p (Generator k)))
+  where
+    go : (t : Bool) → cond t 0 (P .health p) ≡ 0
+    go true = refl
+    go false = e
+
+-- a breaker is as it was
+breakers-stay : {rs : List Report} → Returns rs → (P : PlantState) (i : ℕ)
+    → (afterWords rs P .health (generatorBreaker i) ≡ P .health (generatorBreaker i))
+    × (afterWords rs P .health (busBreaker i) ≡ P .health (busBreaker i))
+unfolding afterWords afterWord samePart
+breakers-stay none-returns P i = (refl, refl)
+breakers-stay (returns k r) P i = breakers-stay r (afterWord (record { part = Generator k; word = Fit }) P) i
+
+module _ (n : ℕ) (P : PlantState) (fits : (g : ℕ) → g < n → P .last (generator g) ≡ true → fitGenerator (P .health) g ≡ true) where
+  no-start : (rs : List Report) (g : ℕ) → g < n → running (afterWords rs P .health) (afterWords rs P .last) g ≡ true
+      → running (P .health) (P .last) g ≡ true
+  no-start rs g hg e =
+      let on : P .last (generator g) ≡ true = rw (words-last rs P) at (and-right (fitGenerator (afterWords rs P .health) g) _ e) in
+      and-intro (fitGenerator (P .health) g) _ (fits g hg on) on
+
+  no-more : {rs : List Report} → Returns rs → Less n (afterWords rs P .health) (afterWords rs P .last) (P .health) (P .last)
+  no-more {rs} r = record {
+    runs = λ g hg f c. let on = rw (words-last rs P) at c in (fits g hg on, on);
+    breaker = λ g hg c. rw (words-last rs P, breakers-stay r P g .0) at c;
+    line = λ i hi c. rw (words-last rs P, breakers-stay r P i .1) at c;
+  }
+
+  no-less : {rs : List Report} → Returns rs → Less n (P .health) (P .last) (afterWords rs P .health) (afterWords rs P .last)
+  no-less {rs} r = record {
+    runs = λ g hg f c. (rw (fit-stays r P (generator g) (eqb-true _ 0 f)), rw (words-last rs P) c);
+    breaker = λ g hg c. rw (words-last rs P, breakers-stay r P g .0) c;
+    line = λ i hi c. rw (words-last rs P, breakers-stay r P i .1) c;
+  }
+
+  idle : Idle n P
+  idle = record {
+    orders-stand = λ rs. words-last rs P;
+    none-starts = no-start;
+    fed-as-before = λ rs r b hb. feed-alike (no-more r) (no-less r) b hb;
+  }
+
+-- of every controller that meets demand 3, after every list of calls
+pub ended-idle : {c : Controller} → Demand3 c → (n : ℕ) (buffer : List ℕ) → isServed (c .start n buffer) ≡ true
+    → {calls : Calls} {W : World} → Ended c n buffer calls W → Idle n (W .plant)
+ended-idle meets n buffer begun {W = W} h = idle n (W .plant) (ordered-fit meets n buffer begun h)
+
+-- ---- "The last word decides; one that repeats the present health is accepted."
+
+-- a good record, arrays of 20 places
+module _ (ring : Ring) (arrays : Arrays ring) (good : badRecord ring ≡ false) where
+  abbrev H : PartHealth
+  H = healthOf (ring .health)
+
+  -- the answer of a call that leaves the ring as it is
+  abbrev as-it-was : RingAnswer
+  as-it-was = record { outcome = Served; ring = ring; choices = calledFor ring }
+
+  -- a record that is told what it holds is the same
+  told-same : (r : Report) → wordNumber (r .word) ≡ H (r .part) → told ring r ≡ ring
+  unfolding told reported
+  told-same r e = λ i. record { n = ring .n; health = sym same i; commands = ring .commands }
+    where
+      at : (p : Part) → (samePart p (r .part) ≡ true) ⊎ (samePart p (r .part) ≡ false)
+          → H p ≡ cond (samePart p (r .part)) (wordNumber (r .word)) (H p)
+      at p (inl t) = rw t (ap H (same-eq p (r .part) t) ∙ sym e)
+      at p (inr t) = rw t
+
+      same : ring .health ≡ healthPlaces (reported H r)
+      same = health-is ring arrays (reported H r) (λ p i. at p (dec (samePart p (r .part))))
+
+  -- a word that repeats the present health, word 0 for a fit generator too: the very record, the choices it calls for, two empty waves
+  pub word-repeated : (r : Report) → Good (ring .n) r → wordNumber (r .word) ≡ H (r .part) → (buffer : List ℕ) → 2 ≤ length buffer
+      → stepReply ring r buffer ≡ record { answer = as-it-was; buffer = written (0 ∷ 0 ∷ []) buffer }
+  unfolding servedReply servedAnswer toldAll
+  word-repeated r g e buffer enough =
+      let size = good-size ring good in
+      let steady = good-steady ring good in
+      let call = step r buffer in
+      let length-is = ap length (sheet-is (size .1) (call-ready (size .1) steady call)) in
+      let two : length (nextSheet (told ring r)) ≡ 2 = rw (told-same r e, still ring good) in
+      let fine : CallFine (ring .n) (record { health = H; last = commandsOf (ring .commands) }) call =
+      record { few = omega arith; good = good-and g no-reports; fits = omega (arith, length-is, two, enough) } in
+      let yes = fine-served (size .0) (size .1) steady call fine in
+      call-served ring call yes ∙ rw (told-same r e, still ring good, plan-kept ring good arrays)
+
+  -- a ring of the same size and health has the same plan
+  replanned-same : (R : Ring) → R .n ≡ ring .n → R .health ≡ ring .health → servedAnswer R ≡ as-it-was
+  unfolding servedAnswer withPlan planned
+  replanned-same R n-is health-is = rw (n-is, health-is) (ap (λ x. record { outcome = Served; ring = x; choices = calledFor ring }) (plan-kept ring good arrays))
+
+  -- a fit part fails and returns: the very record, and the choices that it calls for
+  module _ (p : Part) (w : Word) (fit-before : H p ≡ 0) where
+    abbrev fails : Report
+    fails = record { part = p; word = w }
+
+    abbrev returning : Report
+    returning = record { part = p; word = Fit }
+
+    -- the ring that was told the fault
+    abbrev failed : Ring
+    failed = stepReply ring fails fullRoom .answer .ring
+
+    health-back : ring .health ≡ healthPlaces (reported (healthOf (healthPlaces (reported H fails))) returning)
+    unfolding reported
+    health-back = health-is ring arrays _ (λ q i. at q i (dec (samePart q p)))
+      where
+        at : (q : Part) → InRing largest q → (samePart q p ≡ true) ⊎ (samePart q p ≡ false)
+            → H q ≡ cond (samePart q p) 0 (healthOf (healthPlaces (reported H fails)) q)
+        at q i (inl t) = rw t (ap H (same-eq q p t) ∙ fit-before)
+        at q i (inr t) = rw (t, health-places (reported H fails) q i, t)
+
+    pub returned-as-before : Good (ring .n) fails → Good (ring .n) returning → stepReply failed returning fullRoom .answer ≡ as-it-was
+    unfolding servedReply servedAnswer withPlan toldAll told
+    returned-as-before g h =
+        let size = good-size ring good in
+        let first : stepReply ring fails fullRoom ≡ servedReply (told ring fails) fullRoom =
+        call-served ring (step fails fullRoom) (served-step (size .0) (size .1) (good-steady ring good) fails g) in
+        let n-is : failed .n ≡ ring .n = ap (λ (x : Reply). x .answer .ring .n) first in
+        let health-is : failed .health ≡ healthPlaces (reported H fails) = ap (λ (x : Reply). x .answer .ring .health) first in
+        let still-good = call-good ring good (step fails fullRoom) in
+        let bounds = good-size failed still-good in
+        let second : stepReply failed returning fullRoom ≡ servedReply (told failed returning) fullRoom =
+        call-served failed (step returning fullRoom)
+        (served-step (bounds .0) (bounds .1) (good-steady failed still-good) returning (rw n-is h)) in
+        ap (λ (x : Reply). x .answer) second ∙ replanned-same (told failed returning) n-is (rw health-is (sym health-back))
