@@ -44,11 +44,11 @@ module _ (l : List ℕ) (v : ℕ) (full : length l ≡ largest) where
 
 -- the health after a report: its word's number is stored at its part
 module _ (h : Health) (sized : Sized h) (r : Report) where
-  pub with-word : (v : ℕ) → v ≡ wordNumber (r .word) → (p : Part) → r .part ≡ p
-      → (l : List ℕ) → l ≡ places (withValue (arrayOf h p) (number p) v)
+  pub with-word : (p : Part) → r .part ≡ p → (v : ℕ) (l : List ℕ) → l ≡ places (withValue (arrayOf h p) (number p) v)
+      → v ≡ wordNumber (r .word)
       → withArray h p l ≡ healthPlaces (reported (healthOf h) r)
   unfolding withValue healthPlaces healthOf reported samePart
-  with-word v e p f l q = rw (f, q, e) (go p)
+  with-word p f v l q e = rw (f, q, e) (go p)
     where
       kept : (a : List ℕ) → length a ≡ largest → places (λ i. getD a i 0) ≡ a
       kept a s = sym (places-of a 0 s)

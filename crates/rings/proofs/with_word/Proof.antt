@@ -1,4 +1,5 @@
 -- `rings::with_word` meets its contract.
+use native.Mathlib.Omega.{arith}
 use borrow.Author.Needs.{needs}
 use Rattle.rings.specs.Words.{with-word}
 use Rattle.rings.proofs.with_word.Statement.{statement}
@@ -28,17 +29,17 @@ with-value-requires-3 c κs = search needs
 returns : tie.Need-returns
 returns c =
     let d = c .before .before .before in
-    with-word _ (search needs) _ _ (d .before .before .number-of .ensures) _ (d .part .given .1) _ (c .with-value .ensures)
+    with-word _ (search needs) _ _ (d .part .given .1) _ _ (c .with-value .ensures) (omega (arith, d .before .before .number-of .ensures))
 
 returns-2 : tie.Need-returns-2
 returns-2 c =
     let d = c .before .before .before in
-    with-word _ (search needs) _ _ (d .before .before .number-of .ensures) _ (d .part2 .given .1) _ (c .with-value2 .ensures)
+    with-word _ (search needs) _ _ (d .part2 .given .1) _ _ (c .with-value2 .ensures) (omega (arith, d .before .before .number-of .ensures))
 
 returns-3 : tie.Need-returns-3
 returns-3 c =
     let d = c .before .before .before in
-    with-word _ (search needs) _ _ (d .before .before .number-of .ensures) _ (d .part3 .given .1) _ (c .with-value3 .ensures)
+    with-word _ (search needs) _ _ (d .part3 .given .1) _ _ (c .with-value3 .ensures) (omega (arith, d .before .before .number-of .ensures))
 
 pub with-word-spec : {M : Type 1} → statement M
 with-word-spec =

@@ -10,11 +10,11 @@ use Rattle.transition.proofs.advance.Tie as tie
 -- what the plan says
 choices-planned : (d : tie.After-plan)
     → (let ring = d .before .before .args .ring in d .plan .result .choices ≡ choices (ring .n) (healthOf (ring .health)))
-choices-planned d = cc
+choices-planned d = d .plan .ensures .0
 
 commands-planned : (d : tie.After-plan) → d .plan .result .commands ≡ commandPlaces (planned (d .before .before .args .ring))
 unfolding planned
-commands-planned d = cc
+commands-planned d = d .plan .ensures .1 .0
 
 returns : tie.Need-returns
 returns c =
