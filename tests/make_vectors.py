@@ -22,10 +22,12 @@ scans   scans with any counts, bad reports at any place, damaged records and sho
 """
 import argparse
 import functools
+import inspect
 import itertools
 import os
 import random
 import sys
+import types
 
 HERE = os.path.dirname(os.path.abspath(__file__))
 sys.path.insert(0, os.path.join(HERE, "simulation"))
@@ -34,6 +36,20 @@ import ringsim as rs  # noqa: E402
 
 CRATES = os.path.join(HERE, "..", "crates")
 KINDS = (rs.GENERATOR, rs.GENERATOR_BREAKER, rs.BUS_BREAKER)
+
+# The rules that have landed: document 01's with Note 3 of document 02.
+RULES = rs.Rules(note3=True)
+
+
+def under(rules, *modules):
+    """The functions of some modules that take rules, each bound to these."""
+    named = [(name, value) for module in modules for name, value in vars(module).items() if inspect.isfunction(inspect.unwrap(value))]
+    ruled = [(name, value) for name, value in named if "rules" in inspect.signature(value).parameters]
+    return types.SimpleNamespace(**{name: functools.partial(value, rules=rules) for name, value in ruled})
+
+
+# The simulation is asked by `sim` wherever rules matter; `rs` has its types, its constants and what depends on no rules.
+sim = under(RULES, rs, compare)
 
 
 def fault_file(n, pairs):
@@ -60,14 +76,52 @@ def examples():
 def single_and_double_faults():
     """A ring of five, Figures 21 and 22 of document 004: every single fault, and every third double fault."""
     faults = [(c, w) for c in rs.codes_of_ring(5) for w in range(4)
-              if rs.report_refusal(5, rs.report_of(c, w), rs.BASE) == 0 and w]
+              if sim.report_refusal(5, rs.report_of(c, w)) == 0 and w]
     yield from (fault_file(5, [f]) for f in faults)
     yield from (fault_file(5, list(pair)) for pair in list(itertools.combinations(faults, 2))[::3])
 
 
+def breakers_around(n, k):
+    """The codes of the breakers next to Bk: that of its generator, and both bus breakers."""
+    return [rs.code_of("GB", k), rs.code_of("BB", k), rs.code_of("BB", (k - 2) % n + 1)]
+
+
+def returns_beside_stuck_breakers(n, k):
+    """Lists of reports in which Gk comes back where breakers around it are stuck."""
+    off, fit = (rs.code_of("G", k), 1), (rs.code_of("G", k), 0)
+    all_off, others = [(code, 1) for code in range(n)], [code for code in range(n) if code != off[0]]
+    own, *both = breakers_around(n, k)
+    for breaker, word in itertools.product((own, *both), (2, 3)):
+        yield [(breaker, word), off, fit, (breaker, 0)]
+        yield all_off + [(breaker, word), fit, (breaker, 0)]
+    cut_off = [off] + [(breaker, 2) for breaker in both]
+    yield cut_off + [fit]                                       # a dark bus is lit again by its own
+    yield cut_off + [(own, 2), fit, (own, 0)]                   # it stays dark: no way leads to it, until GBk comes back
+    yield cut_off + [(code, word) for code in others for word in (1, 0)]    # it stays dark, whichever other one returns
+    yield all_off + [(breaker, 2) for breaker in both] + [(code, 0) for code in others] + [fit]
+
+
+def returns_in(n):
+    """Lists of reports in a ring in which generators come back."""
+    off, fit = ([(code, word) for code in range(n)] for word in (1, 0))
+    yield fit                                                   # each is fit already: two empty waves
+    yield from (off + fit, off + fit[::-1], off + off + fit + fit)
+    yield from ([off[0], off[1], fit[1], fit[0]], [off[0], off[1], fit[0], fit[1]])     # the first in priority takes its buses back
+    for one_off, one_fit in zip(off, fit):
+        yield from ([one_off, one_fit], [one_off, one_off, one_fit], [one_fit, one_off], off + [one_fit])
+    for k in (1, 2, n):
+        yield from returns_beside_stuck_breakers(n, k)
+
+
+def returned_generators():
+    """What Note 3 of document 02 speaks of: "word 0 makes a generator fit again"."""
+    for n in (3, 4, 5, 20):
+        yield from (fault_file(n, pairs) for pairs in returns_in(n))
+
+
 def long_files(rng):
     for n, m in ((3, 4096), (20, 4096), (7, 4096), (5, 1000)):
-        yield fault_file(n, [compare.good_pair(rng, n, rs.BASE, 3) for _ in range(m)])
+        yield fault_file(n, [sim.good_pair(rng, n, mood=3) for _ in range(m)])
     yield bytes([3, 1, 16]) + bytes(2 * 4097)
     yield bytes([3, 0, 16]) + bytes([64]) * 4096 + bytes(4095)
     yield bytes([3, 0, 16]) + bytes([64]) * 4096 + bytes(4097)
@@ -75,12 +129,12 @@ def long_files(rng):
 
 def random_files(rng, count):
     for _ in range(count):
-        yield compare.fault_file(rng, rs.BASE)
+        yield sim.fault_file(rng)
 
 
 def runs(rng):
-    for data in itertools.chain(examples(), single_and_double_faults(), long_files(rng), random_files(rng, 250)):
-        text = rs.printed_run(data)
+    for data in itertools.chain(examples(), single_and_double_faults(), returned_generators(), long_files(rng), random_files(rng, 250)):
+        text = sim.printed_run(data)
         yield len(data).to_bytes(2, "little") + data + text + b"\0"
 
 
@@ -109,7 +163,7 @@ FEED_NUMBER = {"dark": 0, "fed": 1, "clash": 2}
 
 
 def reckoning(n, health, commands):
-    number, answers = rs.reckon(n, health, commands)
+    number, answers = sim.reckon(n, health, commands)
     buses = b"".join(bytes([FEED_NUMBER[a[0]]] + list(a[1:]) + [0] * (3 - len(a))) for a in answers)
     return bytes([n]) + places(health) + places(commands) + bytes([number]) + buses
 
@@ -138,7 +192,7 @@ def stepped(record, part, word, room):
     buffer = bytearray([170] * room)
     before = bytes([record.n, 0]) + places(record.health) + places(record.orders)
     report = rs.Report(part, word)
-    answer = rs.step(record, report, buffer)
+    answer = sim.step(record, report, buffer)
     return before + report_bytes(report) + bytes([room]) + answer_bytes(answer, buffer)
 
 
@@ -147,11 +201,11 @@ def steps(rng):
     for n in [0, 2, 3, 4, 5, 12, 20, 21, 255]:
         for room in (0, 1, 5, 11, 12, 40, 82, 122):
             buffer = bytearray([170] * room)
-            answer = rs.start(n, buffer)
+            answer = sim.start(n, buffer)
             yield bytes([n, 255]) + places(blank) + places(blank) + bytes([0, 0, 0, room]) + answer_bytes(answer, buffer)
     for i in range(700):
         n = rng.choice([3, 3, 4, 5, 9, 20])
-        record = rs.record_for(n, random_health(rng, n, False))
+        record = sim.record_for(n, random_health(rng, n, False))
         damage = i % 5
         if damage == 1:
             record.orders[rng.choice(rs.ALL_CODES)] ^= True
@@ -165,11 +219,29 @@ def steps(rng):
         yield stepped(record, part, word, room)
     # "report `65 2`, started ring of three, 5 bytes" is refused by 8; "6 bytes are enough"
     for room in (5, 6):
-        yield stepped(rs.record_for(3, blank), rs.Part(rs.BUS_BREAKER, 2), 2, room)
+        yield stepped(sim.record_for(3, blank), rs.Part(rs.BUS_BREAKER, 2), 2, room)
     # "n = 3, all fit, G2 on with GB2 open" is refused by 9
-    record = rs.record_for(3, blank)
+    record = sim.record_for(3, blank)
     record.orders[rs.code_of(rs.GENERATOR_BREAKER, 2)] = False
     yield stepped(record, rs.Part(rs.BUS_BREAKER, 2), 2, 122)
+
+
+def returning_steps(rng):
+    """Word 0 for generators: fit ones, off ones, the only one that is left, and in rings with any faults, each with a buffer as long as
+    the sheet, a byte shorter and longer; then numbers that the ring has not, and damaged records."""
+    for n in RINGS:
+        for g in (1, 2, n):
+            off, all_off = [("G", g, 1)], [("G", k, 1) for k in range(1, n + 1)]
+            worn = [worn_health(rng, n) for _ in range(4)]
+            for health in [health_with(faults) for faults in ([], off, all_off)] + worn + [{**h, **{g - 1: 1}} for h in worn]:
+                record = sim.record_for(n, health)
+                length = scan_length(record, [report_on("G", g, 0)])
+                yield from (stepped(record, rs.Part("G", g), 0, room) for room in (length, length - 1, 122))
+        for number, room in itertools.product((0, n + 1, 255), (0, 122)):
+            yield stepped(sim.record_for(n), rs.Part("G", number), 0, room)
+    for n in (3, 8):
+        for record in damaged_records(n):
+            yield from (stepped(record, rs.Part("G", g), 0, room) for g, room in ((1, 122), (n, 0), (n + 1, 1)))
 
 
 MOST_ROOM = 1024
@@ -181,25 +253,25 @@ def health_with(faults):
 
 
 @functools.lru_cache(maxsize=None)
-def near_ways(n, bus):
+def near_ways(n, bus, rules):
     """A bus's ways, the shortest first."""
-    return sorted(rs.ways_in_order(n, bus), key=lambda way: len(way.parts))
+    return sorted(rs.ways_in_order(n, bus, rules), key=lambda way: len(way.parts))
 
 
 def dark_by_near_ways(n, bus, health, locks, rules):
     """What dark_by_ways answers, sooner: the order in which a bus's ways are asked makes no difference."""
-    return not any(rs.way_could_carry(way, health, locks, rules) for way in near_ways(n, bus))
+    return not any(rs.way_could_carry(way, health, locks, rules) for way in near_ways(n, bus, rules))
 
 
 def cut_sets(n, bus, health):
     """The minimal cut sets of a bus, as lists of codes."""
-    return rs.darkening_sets(n, bus, health, rs.no_locks(), is_dark=dark_by_near_ways)
+    return sim.darkening_sets(n, bus, health, rs.no_locks(), is_dark=dark_by_near_ways)
 
 
 def cut_case(record, bus, room):
     """A case of the minimal cut sets."""
     buffer = bytearray([170] * room)
-    number, count = rs.darkening(record, bus, buffer, is_dark=dark_by_near_ways)
+    number, count = sim.darkening(record, bus, buffer, is_dark=dark_by_near_ways)
     before = bytes([record.n]) + places(record.health) + places(record.orders) + bytes([bus]) + room.to_bytes(2, "little")
     return before + bytes([number]) + count.to_bytes(2, "little") + bytes(buffer)
 
@@ -207,7 +279,7 @@ def cut_case(record, bus, room):
 def started_cuts():
     """Every bus of every started ring. The longest sheet, that of a ring of three, has 32 bytes."""
     for n in range(3, 21):
-        record = rs.record_for(n)
+        record = sim.record_for(n)
         yield from (cut_case(record, bus, 32) for bus in range(1, n + 1))
 
 
@@ -225,7 +297,7 @@ def settled_cuts():
             (3, 3, [("BB", 2, 3), ("G", 3, 1), ("BB", 3, 2)], (0, 5)),                      # BB2 alone, stuck closed, can go open
             (4, 4, [("GB", 4, 3), ("BB", 3, 3), ("BB", 4, 3)], (0,)),                       # so can these three
             (20, 11, [("BB", 20, 2)] + many_off, ())):                                      # 264 sets: the high byte of the count
-        record = rs.record_for(n, health_with(faults))
+        record = sim.record_for(n, health_with(faults))
         sheet = sheet_length(n, bus, record.health)
         yield from (cut_case(record, bus, room) for room in (*others, sheet - 1, sheet, sheet + 1))
 
@@ -239,15 +311,15 @@ def damaged_records(n):
     ordered_above = [("G", n + 1), ("GB", 20), ("BB", n + 1)]
     missing, too_many = [("G", 1), ("GB", 2), ("BB", 2)], [("G", n), ("GB", n), ("BB", 1)]
     for size in sizes:
-        record = rs.record_for(n)
+        record = sim.record_for(n)
         record.n = size
         yield record
     for kind, number, health in of_no_kind + faulty_above + called_otherwise:
-        record = rs.record_for(n)
+        record = sim.record_for(n)
         record.health[rs.code_of(kind, number)] = health
         yield record
     for kind, number in ordered_above + missing + too_many:
-        record = rs.record_for(n)
+        record = sim.record_for(n)
         record.orders[rs.code_of(kind, number)] ^= True
         yield record
 
@@ -258,7 +330,7 @@ def refused_cuts():
         for record in damaged_records(n):
             yield from (cut_case(record, bus, room) for bus, room in ((1, 40), (n, 0), (0, 40), (n + 1, 1), (255, 0)))
     for n in (3, 6, 20):
-        record = rs.record_for(n)
+        record = sim.record_for(n)
         yield from (cut_case(record, bus, room) for bus in (0, n + 1, 21, 128, 255) for room in (0, 1, 40))
 
 
@@ -273,7 +345,7 @@ def worn_cuts(rng):
     """Rings with any faults: buffers as long as the sheet, a byte shorter, longer and very short; now and then a record is damaged, or a
     bus is outside the ring."""
     for n in [3, 4, 5, 6, 7, 8] * 50 + [9, 10, 11, 12, 13] * 6 + [14, 16, 20]:
-        record, bus = rs.record_for(n, worn_health(rng, n)), rng.randint(1, n)
+        record, bus = sim.record_for(n, worn_health(rng, n)), rng.randint(1, n)
         sheet = sheet_length(n, bus, record.health)
         if rng.random() < .05:
             record.orders[rng.choice(rs.ALL_CODES)] ^= True
@@ -298,17 +370,21 @@ def any_report(rng):
     return report_on(rng.choice(KINDS), rng.choice([0, 1, 2, 3, rng.randrange(256)]), rng.randrange(4))
 
 
-def good_reports(rng, n, count, off=.05):
-    """Reports that are served; off is the share of generators that go off, which no later word brings back."""
-    return [report_on("G", rng.randint(1, n), 1) if rng.random() < off
-            else report_on(rng.choice(["GB", "BB"]), rng.randint(1, n), rng.choice([0, 0, 2, 3])) for _ in range(count)]
+def good_report(rng, n):
+    """A report that is served; generators and breakers go and come back."""
+    kind = rng.choice(["G", "GB", "GB", "BB", "BB"])
+    return report_on(kind, rng.randint(1, n), rng.choice([0, 0, 1] if kind == "G" else [0, 0, 2, 3]))
+
+
+def good_reports(rng, n, count):
+    return [good_report(rng, n) for _ in range(count)]
 
 
 def bad_reports(rng, n):
-    """A report of each flaw: two that are refused by 5, two by 6 and one by 7."""
+    """A report of each flaw: two that are refused by 5 and two by 6."""
     inside = rng.randint(1, n)
     return [report_on(rng.choice(KINDS), 0, rng.randrange(4)), report_on(rng.choice(KINDS), n + 1, rng.randrange(4)),
-            report_on("G", inside, rng.choice([2, 3])), report_on(rng.choice(["GB", "BB"]), inside, 1), report_on("G", inside, 0)]
+            report_on("G", inside, rng.choice([2, 3])), report_on(rng.choice(["GB", "BB"]), inside, 1)]
 
 
 def with_report(reports, place, report):
@@ -320,14 +396,14 @@ def scan_case(rng, record, reports, count, room):
     scanned = reports + [any_report(rng) for _ in range(rs.MOST_SCANNED - len(reports))]
     before = bytes([record.n]) + places(record.health) + places(record.orders) + bytes([count])
     buffer = bytearray([170] * room)
-    answer = rs.scan(record, scanned, count, buffer)
+    answer = sim.scan(record, scanned, count, buffer)
     return before + b"".join(map(report_bytes, scanned)) + bytes([room]) + answer_bytes(answer, buffer)
 
 
 def scan_length(record, reports):
     """The length of the sheet of a scan that is served."""
     sheet = bytearray(rs.LONGEST_SHEET)
-    assert rs.scan(record, reports, len(reports), sheet).refusal == 0
+    assert sim.scan(record, reports, len(reports), sheet).refusal == 0
     return 2 + 2 * (sheet[0] + sheet[1])
 
 
@@ -335,7 +411,7 @@ def stepped_through(record, reports):
     """The records of the reports' single steps, the first before them all and the last behind them."""
     records = [record]
     for report in reports:
-        records.append(rs.step(records[-1], report, bytearray(rs.LONGEST_SHEET)).record)
+        records.append(sim.step(records[-1], report, bytearray(rs.LONGEST_SHEET)).record)
     return records
 
 
@@ -353,7 +429,7 @@ def with_rooms(record, reports):
 def counted_scans(rng):
     """Each edge of the count; one above 64 is refused by 11, before bad reports and short buffers."""
     for n in RINGS:
-        record = rs.record_for(n, worn_health(rng, n))
+        record = sim.record_for(n, worn_health(rng, n))
         for count in (0, 1, 2, 63, 64):
             yield from with_rooms(record, good_reports(rng, n, count))
         for count in (65, 128, 255):
@@ -364,33 +440,33 @@ def counted_scans(rng):
 def bad_scans(rng):
     """A bad report of each flaw at each place of a full scan; then at the last place that is counted and at the first that is not."""
     for place in range(rs.MOST_SCANNED):
-        n = RINGS[place % len(RINGS)]
-        record, reports = rs.record_for(n), good_reports(rng, n, rs.MOST_SCANNED)
+        n, one = RINGS[place % len(RINGS)], place // len(RINGS) % 4
+        record, reports = sim.record_for(n), good_reports(rng, n, rs.MOST_SCANNED)
         for flaw, bad in enumerate(bad_reports(rng, n)):
-            yield record, with_report(reports, place, bad), rs.MOST_SCANNED, 0 if flaw == place % 5 else 40
-        bad = bad_reports(rng, n)[place % 5]
+            yield record, with_report(reports, place, bad), rs.MOST_SCANNED, 0 if flaw == one else 40
+        bad = bad_reports(rng, n)[one]
         yield record, with_report(reports, place, bad), place + 1, 40
         yield record, with_report(reports, place, bad), place, scan_length(record, reports[:place])
 
 
 def twice_bad_scans(rng):
     """Two bad reports of different numbers, the first of which decides, with long buffers and short ones."""
-    for first, second in itertools.permutations(range(5), 2):
+    for first, second in itertools.permutations(range(4), 2):
         n = rng.choice(RINGS)
         one, other = bad_reports(rng, n)[first], bad_reports(rng, n)[second]
-        if rs.report_refusal(n, one, rs.BASE) != rs.report_refusal(n, other, rs.BASE):
+        if sim.report_refusal(n, one) != sim.report_refusal(n, other):
             count = rng.randint(2, rs.MOST_SCANNED)
             before, behind = sorted(rng.sample(range(count), 2))
             reports = with_report(with_report(good_reports(rng, n, count), before, one), behind, other)
-            yield from ((rs.record_for(n), reports, count, room) for room in (0, 40))
+            yield from ((sim.record_for(n), reports, count, room) for room in (0, 40))
 
 
 def settled_scans():
     """Scans that Note 2 of document 02 speaks of, or that its readers may stumble over."""
     for n in (3, 5, 20):
-        started, parts = rs.record_for(n), [rs.part_of_code(code) for code in rs.codes_of_ring(n)]
+        started, parts = sim.record_for(n), [rs.part_of_code(code) for code in rs.codes_of_ring(n)]
         breakers = [part for part in parts if part.kind != "G"]
-        stuck = rs.record_for(n, {part.code: 2 + part.number % 2 for part in breakers})
+        stuck = sim.record_for(n, {part.code: 2 + part.number % 2 for part in breakers})
         for record, reports in (
                 (started, [("BB", 2, 2), ("BB", 2, 3), ("BB", 2, 2)]),                     # the last word decides
                 (started, [("BB", 2, 2), ("GB", 1, 3), ("BB", 2, 3), ("GB", 1, 2)]),
@@ -410,12 +486,33 @@ def settled_scans():
         yield from ((started, [], 0, room) for room in (0, 3, 255))
 
 
+def returning_scans():
+    """Scans that bring generators back, as Note 3 of document 02 has it."""
+    for n in (3, 4, 5, 20):
+        numbers = range(1, n + 1)
+        first, all_off = ([("G", k, 1) for k in failed] for failed in ((1, 2), numbers))
+        stuck = [("BB", k, 2 + k % 2) for k in numbers] + [("GB", 2, 3), ("GB", n, 2)]
+        fit, in_turn = [("G", k, 0) for k in numbers], [("G", k % n + 1, (k // n + 1) % 2) for k in range(64)]
+        for faults, reports in (
+                ([], [("G", 1, 1), ("G", 1, 0)]), ([], all_off + fit),                     # off, and fit again in the cycle
+                ([], fit), (stuck, [("G", 2, 0)] * 2),                                     # fit already
+                (first, [("G", 1, 0), ("G", 1, 1)]), (all_off, fit + all_off),             # fit again, and off in the cycle
+                (first, [("G", 1, 0), ("G", 1, 1), ("G", 1, 0)]),
+                (first, fit), (all_off, fit), (all_off, fit[::-1]), (all_off + stuck, fit),    # all return at once
+                (all_off, [("G", n, 0)]), (all_off + stuck, [("G", 1, 0)]),                # one of them
+                (first, [("G", 1, 0), ("BB", 1, 3)]), (first, [("BB", 1, 3), ("G", 2, 0), ("G", 1, 0)]),    # with a word 3
+                (all_off, [("GB", 1, 3), ("G", 1, 0), ("BB", n, 3), ("G", 2, 0)]),
+                (first + [("BB", 1, 3)], [("BB", 1, 0), ("G", 1, 0)]),                     # with a breaker's return
+                ([], in_turn), (all_off, in_turn), (stuck, in_turn), (all_off, [("G", 1, k % 2) for k in range(64)])):
+            yield from with_rooms(sim.record_for(n, health_with(faults)), [report_on(*report) for report in reports])
+
+
 def own_sheet_scans(rng):
     """Buffers too short for a single step's sheet, but not for the scan's own, for which alone 8 is checked, and the other way."""
     shorter, longer = [], []
     while min(len(shorter), len(longer)) < 24:
         n = rng.choice(RINGS)
-        record, reports = rs.record_for(n, worn_health(rng, n)), good_reports(rng, n, rng.randint(2, 12))
+        record, reports = sim.record_for(n, worn_health(rng, n)), good_reports(rng, n, rng.randint(2, 12))
         own, step = scan_length(record, reports), longest_step(record, reports)
         if own < step:
             shorter.append((record, reports, len(reports), rng.randrange(own, step)))
@@ -430,15 +527,15 @@ def refused_scans(rng):
         for k, record in enumerate(damaged_records(n)):
             count = (0, 1, 2, 63, 64)[k % 5]
             yield record, good_reports(rng, n, count), count, 40
-            yield record, bad_reports(rng, n), (5, 64, 65, 255)[k % 4], 0
+            yield record, bad_reports(rng, n), (4, 64, 65, 255)[k % 4], 0
 
 
 def listed_scans(rng):
     """Long lists of scans and steps, each with the record last given; among the scans are refused ones."""
     for n in RINGS:
-        record = rs.record_for(n)
+        record = sim.record_for(n)
         for k in range(50):
-            reports = good_reports(rng, n, rng.choice([0, 1, 2, 3, 5, 8, 20, 64]), off=.003 * n)
+            reports = good_reports(rng, n, rng.choice([0, 1, 2, 3, 5, 8, 20, 64]))
             if k % 2:
                 record = stepped_through(record, reports)[-1]
                 continue
@@ -446,12 +543,12 @@ def listed_scans(rng):
             if reports and rng.random() < .1:
                 reports[rng.randrange(len(reports))] = rng.choice(bad_reports(rng, n))
             yield record, reports, len(reports), room
-            record = rs.scan(record, reports, len(reports), bytearray(room)).record
+            record = sim.scan(record, reports, len(reports), bytearray(room)).record
 
 
 def scans(rng):
-    calls = itertools.chain(counted_scans(rng), bad_scans(rng), twice_bad_scans(rng), settled_scans(), own_sheet_scans(rng),
-                            refused_scans(rng), listed_scans(rng))
+    calls = itertools.chain(counted_scans(rng), bad_scans(rng), twice_bad_scans(rng), settled_scans(), returning_scans(),
+                            own_sheet_scans(rng), refused_scans(rng), listed_scans(rng))
     return (scan_case(rng, *call) for call in calls)
 
 
@@ -463,7 +560,7 @@ def feed_words(answer):
 
 def plant_text(n, health, commands):
     """What ringplant prints."""
-    number, answers = rs.reckon(n, health, commands)
+    number, answers = sim.reckon(n, health, commands)
     if number:
         return "refused %d\n" % number
     return "".join("B%d %s\n" % (bus, feed_words(answer)) for bus, answer in enumerate(answers[:n], start=1))
@@ -472,7 +569,7 @@ def plant_text(n, health, commands):
 def feeds_text(n, health, commands):
     """What feeds each bus, as a line of ringtrace has it."""
     marks = {"dark": "-", "fed": "G%d", "clash": "G%d!G%d"}
-    number, answers = rs.reckon(n, health, commands)
+    number, answers = sim.reckon(n, health, commands)
     assert number == 0
     return " ".join("B%d=%s" % (bus, marks[a[0]] % tuple(a[1:])) for bus, a in enumerate(answers[:n], start=1))
 
@@ -489,16 +586,16 @@ def call_text(number, commands, answer, sheet):
 
 def trace_text(data):
     """What ringtrace prints."""
-    file = rs.parse_fault_file(data)
+    file = sim.parse_fault_file(data)
     if file.refusal:
         return "refused %d\n" % file.refusal
     sheet = bytearray(122)
-    answer = rs.start(file.n, sheet)
+    answer = sim.start(file.n, sheet)
     lines = ["ring %d reports %d\n" % (file.n, len(file.codes))]
     lines.append(call_text(0, {code: False for code in rs.ALL_CODES}, answer, sheet))
     for number, (code, word) in enumerate(zip(file.codes, file.words), start=1):
         commands = answer.record.orders
-        answer = rs.step(answer.record, rs.report_of(code, word), sheet)
+        answer = sim.step(answer.record, rs.report_of(code, word), sheet)
         lines.append(call_text(number, commands, answer, sheet))
     return "".join(lines)
 
@@ -510,12 +607,12 @@ def set_text(codes):
 
 def cuts_text(data):
     """What ringcuts prints: the ring after the last report."""
-    file = rs.parse_fault_file(data)
+    file = sim.parse_fault_file(data)
     if file.refusal:
         return "refused %d\n" % file.refusal
     record, lines = rs.Record(file.n), []
     for code, word in zip(file.codes, file.words):
-        rs.take_word(record, rs.report_of(code, word), rs.BASE)
+        sim.take_word(record, rs.report_of(code, word))
     for bus in range(1, file.n + 1):
         sets = cut_sets(file.n, bus, record.health)
         lines += ["B%d %d" % (bus, len(sets))] + [set_text(codes) for codes in sets]
@@ -533,12 +630,12 @@ def scans_file(n, calls):
 def scans_text(n, calls):
     """What ringscan prints: the start's line, then that of each call, a list of reports, or its refusal."""
     sheet = bytearray(rs.LONGEST_SHEET)
-    answer = rs.start(n, sheet)
+    answer = sim.start(n, sheet)
     if answer.refusal:
         return "refused %d\n" % answer.refusal
     lines = [rs.line_of_run(0, n, answer.choices, sheet)]
     for number, reports in enumerate(calls, start=1):
-        answer = rs.scan(answer.record, reports, len(reports), sheet)
+        answer = sim.scan(answer.record, reports, len(reports), sheet)
         lines.append("refused %d\n" % answer.refusal if answer.refusal else rs.line_of_run(number, n, answer.choices, sheet))
     return "".join(lines)
 
@@ -555,11 +652,12 @@ def gate_plant():
     return 12, health, commands
 
 
-# BB1 sticks closed between two running generators; BB2 sticks open; G1, G2 and G3 fail; BB2 comes back.
-GATE_TRACE = fault_file(3, [(64, 3), (65, 2), (0, 1), (1, 1), (2, 1), (65, 0)])
+# BB1 sticks closed between two running generators; BB2 sticks open; G1, G2 and G3 fail; BB2, G3 and G1 come back.
+GATE_TRACE = fault_file(3, [(64, 3), (65, 2), (0, 1), (1, 1), (2, 1), (65, 0), (2, 0), (0, 0)])
 
-# In a ring of six BB2 sticks closed, BB4 and BB5 stick open and G5 fails, so that B5 is dark; GB1 sticks open and comes back; G6 fails.
-GATE_CUTS = fault_file(6, [(65, 3), (67, 2), (32, 2), (68, 2), (4, 1), (32, 0), (5, 1)])
+# In a ring of six BB2 sticks closed, BB4 and BB5 stick open and G5 fails, so that B5 is dark; GB1 sticks open and G3 fails, and both come
+# back; G6 fails.
+GATE_CUTS = fault_file(6, [(65, 3), (67, 2), (32, 2), (68, 2), (4, 1), (2, 1), (32, 0), (2, 0), (5, 1)])
 
 
 def gate_scans():
@@ -567,10 +665,12 @@ def gate_scans():
     calls = [
         [("BB", 2, 2), ("BB", 4, 2)],                           # two faults
         [],                                                     # no reports: two empty waves
-        [("GB", 1, 2), ("G", 2, 0), ("GB", 9, 2)],              # refused by 7, the first bad one; nothing changes
+        [("GB", 1, 2), ("G", 2, 3), ("GB", 9, 2)],              # refused by 6, the first bad one; nothing changes
         [("BB", 2, 0), ("BB", 1, 3), ("G", 4, 1)],              # a word 3: BB1 joins two running generators
         [("BB", 1, 0), ("BB", 5, 3), ("BB", 5, 0)],             # its return, and a word 3 that is taken back
-        [("GB", 2, 2)],                                         # a single report
+        [("G", 2, 1), ("G", 4, 0), ("G", 1, 1)],                # two generators fail, another comes back
+        [("G", 2, 0)],                                          # a single report: one of the two comes back
+        [("G", 1, 0), ("G", 2, 1), ("G", 2, 0), ("GB", 2, 2)],  # so does the other; G2 fails and comes back in one cycle
         [("BB", k % 5 + 1, (2, 3, 0)[k % 3]) for k in range(64)],  # 64 reports
         [("BB", 1, 0)] * 65,                                    # refused by 11; nothing changes
         [("BB", k, 0) for k in range(1, 6)] + [("GB", 2, 0)],   # all breakers come back
@@ -588,7 +688,8 @@ def all_cases(seeds, started):
     """The cases of each program; those of started rings are the same for all seeds."""
     yield "vectors", list(runs(random.Random(seeds[0])))
     yield "vectors_plant", list(plant(random.Random(seeds[1])))
-    yield "vectors_step", list(steps(random.Random(seeds[2])))
+    rng = random.Random(seeds[2])
+    yield "vectors_step", list(itertools.chain(steps(rng), returning_steps(rng)))
     yield "vectors_cuts", list(itertools.chain(started, cuts(random.Random(seeds[3]))))
     yield "vectors_scan", list(scans(random.Random(seeds[4])))
 
