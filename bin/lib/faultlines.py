@@ -20,8 +20,8 @@ WORDS = ("fit", "stuck off", "stuck open", "stuck closed")
 # The lines that a scan stands between.
 SCAN_WORDS = ("scan", "end")
 
-# The words that each kind of part takes; a generator that has failed is not made fit again (refusal 7).
-WORDS_OF_KIND = {"G": ("stuck off",), "GB": ("fit", "stuck open", "stuck closed"), "BB": ("fit", "stuck open", "stuck closed")}
+# The words that each kind of part takes.
+WORDS_OF_KIND = {"G": ("fit", "stuck off"), "GB": ("fit", "stuck open", "stuck closed"), "BB": ("fit", "stuck open", "stuck closed")}
 
 
 class Mistake(Exception):
@@ -195,7 +195,7 @@ def file_refusal(data):
 
 
 def report_refusal(size, code, word):
-    """Refusals 5 to 7 of a report and their reason; 0 for one that is served."""
+    """Refusals 5 and 6 of a report and their reason; 0 for one that is served."""
     name = name_of(code)
     if name is None:
         return 5, "code %d names no part" % code
@@ -206,11 +206,8 @@ def report_refusal(size, code, word):
         return 6, "word %d is none: words go from 0 to %d" % (word, len(WORDS) - 1)
     if WORDS[word] in WORDS_OF_KIND[kind]:
         return 0, ""
-    if kind == "G" and WORDS[word] == "fit":
-        return 7, "a generator that has failed is not made fit again"
     *others, last = WORDS_OF_KIND[kind]
-    words = ", ".join(others) + " or " + last if others else last
-    return 6, "a %s is reported as %s" % ("generator" if kind == "G" else "breaker", words)
+    return 6, "a %s is reported as %s or %s" % ("generator" if kind == "G" else "breaker", ", ".join(others), last)
 
 
 def shaped(data):

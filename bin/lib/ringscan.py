@@ -5,7 +5,9 @@
     scan                    up to 64 reports of one cycle, between `scan` and `end`
     BB1 stuck closed
     BB2 fit
+    G1 stuck off
     end
+    G1 fit                  the generator was replaced
 
     bin/ringscan examples/one-cycle.txt             the run: a line for the start, then one for each report and each scan
     bin/ringscan --together FILE                    all reports of the file in one scan
@@ -13,7 +15,7 @@
 
 A line has the number of the call, the buses, the first wave and the second, as in the run of bin/ringctl. The waves of a scan go straight
 from the orders before it to those after its last report; without reports they are empty. A call that is refused prints `refused` and
-the number, 5, 6 or 7 by its first bad report, 11 for more than 64 reports, and changes nothing; the line and the reason are said on
+the number, 5 or 6 by its first bad report, 11 for more than 64 reports, and changes nothing; the line and the reason are said on
 standard error, and the next call goes on from there.
 A file that begins with `ring ` or `#` has readable lines. Every other is a fault file, and each of its reports stands by itself; one of
 another shape is refused whole, as by bin/ringctl.

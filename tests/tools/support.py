@@ -8,10 +8,10 @@ ROOT = os.path.dirname(os.path.dirname(os.path.dirname(os.path.abspath(__file__)
 for folder in ("bin/lib", "tests", "tests/simulation"):
     sys.path.insert(0, os.path.join(ROOT, folder))
 sys.dont_write_bytecode = True
-import compare  # noqa: E402, F401
 import faultlines  # noqa: E402, F401
 import make_vectors  # noqa: E402, F401
 import ringsim  # noqa: E402, F401
+from make_vectors import RULES, sim  # noqa: E402, F401
 
 
 class Answer:
@@ -112,7 +112,7 @@ class ScanCase:
 
     def flaws(self):
         """The refusal of each place's report by itself, 0 where it is good."""
-        return [ringsim.report_refusal(self.record.n, report, ringsim.BASE) for report in self.places]
+        return [sim.report_refusal(self.record.n, report) for report in self.places]
 
     def sheet(self):
         """The sheet of a served case, and the bytes behind it."""

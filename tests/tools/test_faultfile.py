@@ -1,9 +1,10 @@
 """bin/faultfile: readable lines to bytes and back, and what is refused, in words."""
+import itertools
 import random
 import tempfile
 import unittest
 
-from support import ToolCase, faultlines, path, read, ringsim, stored_runs, tool
+from support import ToolCase, faultlines, path, read, ringsim, sim, stored_runs, tool
 
 
 class Encode(ToolCase):
@@ -18,6 +19,7 @@ class Encode(ToolCase):
         self.encodes("ring 3\n", [3, 0, 0])
         self.encodes("ring 3\nBB2 stuck open\n", [3, 1, 0, 65, 2])
         self.encodes("ring 20\nG20 stuck off\nGB1 stuck closed\nBB20 fit", [20, 3, 0, 19, 32, 83, 1, 3, 0])
+        self.encodes("ring 3\nG1 fit\nG3 stuck off\ng3 FIT\n", [3, 3, 0, 0, 2, 2, 0, 1, 0])
 
     def test_what_is_forgiven(self):
         self.encodes("# first\r\n\r\n  RING\t3 # three\r\nbb2   Stuck\tOPEN\r\n", [3, 1, 0, 65, 2])
@@ -84,6 +86,7 @@ class Decode(ToolCase):
 
     def test_what_it_shows(self):
         self.check(tool("faultfile", "decode", data=bytes([3, 2, 0, 65, 0, 2, 1])), 0, b"ring 3\nBB2 stuck open\nG1 stuck off\n")
+        self.check(tool("faultfile", "decode", data=bytes([3, 2, 0, 0, 0, 1, 0])), 0, b"ring 3\nG1 stuck off\nG1 fit\n")
         self.check(tool("faultfile", "decode", data=bytes([3, 1, 0, 67, 2])), 0,
                    b"ring 3\ncode 67 word 2    # refused 5: a ring of 3 has BB1 to BB3\n")
         self.check(tool("faultfile", "decode", data=bytes([3, 1, 0, 64])), 0,
@@ -97,21 +100,23 @@ class Decode(ToolCase):
 class Check(ToolCase):
 
     def test_words_for_each_line(self):
-        lines = b"ring 3\nBB2 stuck open\n\nG2 fit\nBB4 fit\nG1 stuck open\nBB1 stuck off\nBB1 word 9\n"
+        lines = b"ring 3\nBB2 stuck open\n\nG2 fit\nG2 stuck closed\nBB4 fit\nG1 stuck open\nBB1 stuck off\nBB1 word 9\n"
         self.check(tool("faultfile", "check", data=lines), 1,
-                   b"line 4: G2 fit: refused 7, a generator that has failed is not made fit again\n"
-                   b"line 5: BB4 fit: refused 5, a ring of 3 has BB1 to BB3\n"
-                   b"line 6: G1 stuck open: refused 6, a generator is reported as stuck off\n"
-                   b"line 7: BB1 stuck off: refused 6, a breaker is reported as fit, stuck open or stuck closed\n"
-                   b"line 8: BB1 word 9: refused 6, word 9 is none: words go from 0 to 3\n"
-                   b"the controller's answer: refused 7\n")
+                   b"line 5: G2 stuck closed: refused 6, a generator is reported as fit or stuck off\n"
+                   b"line 6: BB4 fit: refused 5, a ring of 3 has BB1 to BB3\n"
+                   b"line 7: G1 stuck open: refused 6, a generator is reported as fit or stuck off\n"
+                   b"line 8: BB1 stuck off: refused 6, a breaker is reported as fit, stuck open or stuck closed\n"
+                   b"line 9: BB1 word 9: refused 6, word 9 is none: words go from 0 to 3\n"
+                   b"the controller's answer: refused 6\n")
 
     def test_whole_files(self):
         self.check(tool("faultfile", "check", data=b"ring 3\nBB2 stuck open\n"), 0, b"the controller's answer: served\n")
         self.check(tool("faultfile", "check", data=b"ring 2\n"), 1,
                    b"refused 2, a ring has from 3 to 20 buses, not 2\nthe controller's answer: refused 2\n")
-        self.check(tool("faultfile", "check", data=b"\3\1\0\0\0"), 1,
-                   b"report 1: G1 fit: refused 7, a generator that has failed is not made fit again\nthe controller's answer: refused 7\n")
+        self.check(tool("faultfile", "check", data=b"\3\1\0\0\2"), 1,
+                   b"report 1: G1 stuck open: refused 6, a generator is reported as fit or stuck off\nthe controller's answer: refused 6\n")
+        for served in (b"\3\1\0\0\0", b"ring 3\nG1 fit\n", b"ring 3\nG2 stuck off\nG2 fit\n"):
+            self.check(tool("faultfile", "check", data=served), 0, b"the controller's answer: served\n")
         self.check(tool("faultfile", "check", data=b"ring 3\nGB33 fit\n"), 2, b"", "line 2: GB33 fit: GB are numbered")
 
     def test_numbers_are_the_simulations(self):
@@ -119,9 +124,19 @@ class Check(ToolCase):
         files = [data for data, _ in stored_runs()]
         files += [bytes(rng.choice([0, 1, 2, 3, 4, 20, 32, 51, 64, 83, 84, 255]) for _ in range(rng.randrange(12))) for _ in range(3000)]
         for data in files:
-            self.assertEqual(faultlines.check(data)[1], ringsim.parse_fault_file(data).refusal, data)
+            self.assertEqual(faultlines.check(data)[1], sim.parse_fault_file(data).refusal, data)
             lines = faultlines.decode(data).encode()
-            self.assertEqual(faultlines.check(lines)[1], ringsim.parse_fault_file(data).refusal, lines)
+            self.assertEqual(faultlines.check(lines)[1], sim.parse_fault_file(data).refusal, lines)
+
+    def test_every_report(self):
+        """Every code and word of every ring has the simulation's number: 5, 6 or none, and never 7."""
+        seen = set()
+        for size, code, word in itertools.product(range(3, 21), range(256), [*range(9), 255]):
+            number, reason = faultlines.report_refusal(size, code, word)
+            self.assertEqual(number, sim.report_refusal(size, ringsim.report_of(code, word)), (size, code, word))
+            self.assertEqual(bool(reason), number > 0)
+            seen.add(number)
+        self.assertEqual(seen, {0, 5, 6})
 
 
 class Words(ToolCase):

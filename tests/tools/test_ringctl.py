@@ -24,7 +24,7 @@ class Ringctl(ToolCase):
 
     def test_refused_is_status_1(self):
         for data, number in ((b"", 1), (b"\3", 1), (b"\2\0\0", 2), (b"\3\1\x10", 3), (b"\3\1\0", 4), (b"\3\1\0\3\1", 5),
-                             (b"\3\1\0\x40\1", 6), (b"\3\1\0\0\0", 7)):
+                             (b"\3\1\0\x40\1", 6), (b"\3\1\0\0\2", 6)):
             self.check(tool("ringctl", data=data), 1, b"refused %d\n" % number)
 
     def test_what_is_no_readable_line_goes_to_the_controller(self):

@@ -6,7 +6,7 @@ import subprocess
 import time
 import unittest
 
-from support import ToolCase, compare, faultlines, make_vectors, path, program, read, ringsim, run, stored_cuts, tool
+from support import ToolCase, faultlines, make_vectors, path, program, read, ringsim, run, sim, stored_cuts, tool
 import selftest
 
 LINES = b"ring 3\nG3 stuck off\nBB2 stuck open\n"
@@ -34,8 +34,8 @@ def names(codes):
 def small_file(rng):
     """A file drawn as compare.py draws them, refused or of a ring below ten, which the simulation searches soon."""
     while True:
-        data = compare.fault_file(rng, ringsim.BASE)
-        file = ringsim.parse_fault_file(data)
+        data = sim.fault_file(rng)
+        file = sim.parse_fault_file(data)
         if file.refusal or file.n < 10:
             return data
 
@@ -71,9 +71,9 @@ class Stored(unittest.TestCase):
         for n in [3, 4, 5, 6] * 8 + [7, 8, 12]:
             health, bus = make_vectors.worn_health(rng, n), rng.randint(1, n)
             sets = make_vectors.cut_sets(n, bus, health)
-            self.assertEqual(sets, ringsim.darkening_sets(n, bus, health, ringsim.no_locks()))
+            self.assertEqual(sets, sim.darkening_sets(n, bus, health, ringsim.no_locks()))
             if n < 6:
-                self.assertEqual(sets, ringsim.darkening_sets(n, bus, health, ringsim.no_locks(), is_dark=ringsim.dark_by_choosing))
+                self.assertEqual(sets, sim.darkening_sets(n, bus, health, ringsim.no_locks(), is_dark=ringsim.dark_by_choosing))
 
 
 class Program(ToolCase):
@@ -113,7 +113,7 @@ class Program(ToolCase):
 
     def test_files_that_are_refused(self):
         for data in make_vectors.examples():
-            if ringsim.parse_fault_file(data).refusal:
+            if sim.parse_fault_file(data).refusal:
                 self.holds(data)
 
     def test_files_that_are_spoiled_in_one_place(self):
@@ -126,6 +126,7 @@ class Program(ToolCase):
     def test_the_last_word_decides(self):
         self.holds(make_vectors.fault_file(4, [(64, 2), (35, 2), (64, 3), (35, 0), (65, 2), (65, 2), (0, 1)]))
         self.holds(make_vectors.fault_file(5, [(66, k % 2 * 2) for k in range(4096)]))
+        self.holds(make_vectors.fault_file(4, [(2, 1), (1, 1), (2, 0), (64, 2), (2, 1), (2, 0), (0, 0)]))
 
     def test_input_in_portions(self):
         running = subprocess.Popen([path("target", "bin", "ringcuts")], stdin=subprocess.PIPE, stdout=subprocess.PIPE)
@@ -163,7 +164,7 @@ class Ringcuts(ToolCase):
 
     def test_refused_is_status_1(self):
         for data, number in ((b"", 1), (b"\3", 1), (b"\2\0\0", 2), (b"\3\1\x10", 3), (b"\3\1\0", 4), (b"\3\1\0\3\1", 5),
-                             (b"\3\1\0\x40\1", 6), (b"\3\1\0\0\0", 7)):
+                             (b"\3\1\0\x40\1", 6), (b"\3\1\0\0\2", 6)):
             for words in ((), ("--bus", "B9"), ("--counts",)):
                 self.check(tool("ringcuts", *words, data=data), 1, b"refused %d\n" % number)
 

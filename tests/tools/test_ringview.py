@@ -6,7 +6,7 @@ import re
 import tempfile
 import unittest
 
-from support import ToolCase, compare, make_vectors, program, ringsim, stored_runs, tool
+from support import ToolCase, make_vectors, program, sim, stored_runs, tool
 
 
 def story(page):
@@ -17,7 +17,7 @@ class Ringtrace(ToolCase):
 
     def test_by_the_simulation(self):
         rng = random.Random(17)
-        files = [data for data, _ in stored_runs()][:150:3] + [compare.fault_file(rng, ringsim.BASE) for _ in range(60)]
+        files = [data for data, _ in stored_runs()][:400:4] + [sim.fault_file(rng) for _ in range(60)]
         for data in files:
             self.assertEqual(program("ringtrace", data).out.decode(), make_vectors.trace_text(data), data)
 
@@ -63,7 +63,7 @@ class Ringview(ToolCase):
 
     def test_longest(self):
         rng = random.Random(18)
-        data = make_vectors.fault_file(20, [compare.good_pair(rng, 20, ringsim.BASE, 3) for _ in range(4096)])
+        data = make_vectors.fault_file(20, [sim.good_pair(rng, 20, mood=3) for _ in range(4096)])
         self.assertEqual(len(story(self.page(data))["calls"]), 4097)
 
     def test_full_output(self):

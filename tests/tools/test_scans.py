@@ -2,7 +2,7 @@
 import collections
 import unittest
 
-from support import ScanCase, make_vectors, ringsim, stored_cases
+from support import ScanCase, make_vectors, ringsim, sim, stored_cases
 
 LONGEST = ringsim.LONGEST_SHEET
 CASES = [ScanCase(data) for data in stored_cases("vectors_scan")]
@@ -14,7 +14,7 @@ def steps_of(case):
     record, answers = case.record, []
     for report in case.reports:
         sheet = bytearray(LONGEST)
-        answers.append((ringsim.step(record, report, sheet), sheet[:2 + 2 * (sheet[0] + sheet[1])]))
+        answers.append((sim.step(record, report, sheet), sheet[:2 + 2 * (sheet[0] + sheet[1])]))
         record = answers[-1][0].record
     return answers
 
@@ -26,7 +26,7 @@ def choice_bytes(choices):
 class Counts(unittest.TestCase):
 
     def test_every_number(self):
-        self.assertEqual({case.number for case in CASES}, {0, 5, 6, 7, 8, 9, 11})
+        self.assertEqual({case.number for case in CASES}, {0, 5, 6, 8, 9, 11})
 
     def test_rings(self):
         self.assertLessEqual({3, 4, 5, 8, 12, 20}, {case.record.n for case in SERVED})
@@ -49,25 +49,25 @@ class Counts(unittest.TestCase):
         self.assertLessEqual({0, 1, 2, 63, 64, 65, 255}, {case.count for case in cases})
         self.assertEqual({any(case.flaws()[:case.count]) for case in cases}, {False, True})
         self.assertIn(0, {case.room for case in cases})
-        self.assertTrue(all(ringsim.record_is_bad(case.record) == (case.number == 9) for case in CASES))
+        self.assertTrue(all(sim.record_is_bad(case.record) == (case.number == 9) for case in CASES))
 
 
 class Reports(unittest.TestCase):
 
     def test_bad_reports_at_every_place(self):
-        """In a full scan, by number 0, by number n + 1, by the word for both kinds of part, and by a generator's return."""
+        """In a full scan, by number 0, by number n + 1, and by the word for both kinds of part."""
         found = collections.defaultdict(set)
         for case in CASES:
-            if case.count == 64 and case.number in (5, 6, 7):
+            if case.count == 64 and case.number in (5, 6):
                 place = next(place for place, flaw in enumerate(case.flaws()) if flaw)
                 part = case.places[place].part
-                detail = {5: part.number - case.record.n, 6: part.kind == "G", 7: 0}[case.number]
+                detail = {5: part.number - case.record.n, 6: part.kind == "G"}[case.number]
                 found[place].add((case.number, "first" if detail < 0 else detail))
         for place in range(64):
-            self.assertLessEqual({(5, "first"), (5, 1), (6, False), (6, True), (7, 0)}, found[place], place)
+            self.assertLessEqual({(5, "first"), (5, 1), (6, False), (6, True)}, found[place], place)
 
     def test_bad_reports_at_the_last_place_counted_and_at_the_first_that_is_not(self):
-        self.assertEqual({case.count for case in CASES if case.number in (5, 6, 7) and case.flaws()[case.count - 1]}, set(range(1, 65)))
+        self.assertEqual({case.count for case in CASES if case.number in (5, 6) and case.flaws()[case.count - 1]}, set(range(1, 65)))
         self.assertEqual({case.count for case in SERVED if case.count < 64 and case.flaws()[case.count]}, set(range(64)))
 
     def test_the_first_bad_report_decides(self):
@@ -75,9 +75,9 @@ class Reports(unittest.TestCase):
         for case in CASES:
             if case.number not in (9, 11):
                 flaws = [flaw for flaw in case.flaws()[:case.count] if flaw]
-                self.assertEqual(case.number if case.number in (5, 6, 7) else 0, (flaws + [0])[0])
+                self.assertEqual(case.number if case.number in (5, 6) else 0, (flaws + [0])[0])
                 seen.update((first, other, case.room == 0) for first in flaws[:1] for other in flaws if other != first)
-        self.assertEqual(seen, {(a, b, short) for a in (5, 6, 7) for b in (5, 6, 7) if a != b for short in (False, True)})
+        self.assertEqual(seen, {(a, b, short) for a, b in ((5, 6), (6, 5)) for short in (False, True)})
 
     def test_any_report_may_stand_past_the_count(self):
         past = [report for case in SERVED for report in case.places[case.count:]]
@@ -96,7 +96,7 @@ class Answers(unittest.TestCase):
     def test_record_and_choices_are_those_that_single_steps_end_with(self):
         for case in SERVED:
             n, health = case.record.n, case.record.health
-            last, choices = case.record, ringsim.choose(n, health, ringsim.no_locks(), ringsim.BASE)
+            last, choices = case.record, sim.choose(n, health, ringsim.no_locks())
             for answer, _ in steps_of(case):
                 self.assertEqual(answer.refusal, 0)
                 last, choices = answer.record, answer.choices
@@ -145,7 +145,7 @@ class Words(unittest.TestCase):
         return False
 
     def test_the_last_word_decides(self):
-        for words in ((2, 3, 2), (2, 3), (3, 2), (2, 0), (3, 0), (0, 3), (1, 1)):
+        for words in ((2, 3, 2), (2, 3), (3, 2), (2, 0), (3, 0), (0, 3), (1, 1), (1, 0), (0, 1), (0, 1, 0)):
             self.assertTrue(self.served_with(*words), words)
         self.assertTrue(self.served_with(*[2] * 64))
 
