@@ -19,9 +19,9 @@ import make_vectors  # noqa: E402
 
 BROWSER = next(filter(None, map(shutil.which, ("chromium", "chromium-browser", "google-chrome", "chrome"))), None)
 
-# Files of each size, with every kind of stuck part, two parts stuck beside each other, and a clash.
+# Files of each size, with every kind of stuck part, two parts stuck beside each other, a clash, and generators that return.
 FILES = {
-    3: "ring 3\nBB1 stuck closed\nBB2 stuck open\nG1 stuck off\nG2 stuck off\n",
+    3: "ring 3\nBB1 stuck closed\nBB2 stuck open\nG1 stuck off\nG2 stuck off\nG3 stuck off\nG2 fit\nG1 fit\n",
     5: "ring 5\nBB2 stuck open\nBB4 stuck open\nG1 stuck off\nGB2 stuck closed\nBB1 stuck closed\n",
     20: "ring 20\nBB1 stuck closed\nGB11 stuck closed\nGB12 stuck closed\nBB10 stuck closed\nBB12 stuck closed\nBB20 stuck open\n"
         "G2 stuck off\nBB5 stuck open\nGB1 stuck open\nG11 stuck off\nG12 stuck off\n",

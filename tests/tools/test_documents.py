@@ -60,6 +60,11 @@ class Commands(unittest.TestCase):
         last = [tool(*words, file).out.splitlines(True)[-1] for words in (["ringctl"], ["ringscan", "--together"])]
         self.assertEqual(re.sub("^    ", "", shown, flags=re.M).encode(), b"".join(last))
 
+    def test_the_returns_in_the_examples(self):
+        shown = re.search(r"((?:    .*\n)+)", text_of("examples", "README.md").split("The last four lines are\n")[1]).group(1)
+        answer = tool("ringctl", "--changes", path("examples", "generator-returns.txt")).out
+        self.assertEqual(re.sub("^    ", "", shown, flags=re.M).encode(), b"".join(answer.splitlines(True)[-4:]))
+
     def test_the_sets_on_the_card(self):
         count, parts = re.search(r"`(B3 \d+)` says that B3 has ten, and `(.*?)` is one", text_of("docs", "CARD.md")).groups()
         lines = tool("ringcuts", "--bus", "B3", data=b"ring 3\n").out.decode().splitlines()
@@ -71,12 +76,13 @@ class Commands(unittest.TestCase):
         self.assertIn(line.encode() + b"\n", read("examples", "bus-breaker-open.run"))
 
     def test_card_and_readme_agree(self):
-        """Both have the picture of the ring, and the eleven refusals."""
+        """Both have the picture of the ring, and the refusals from 1 to 11; 7 is given to no input any more."""
         readme, card = text_of("README.md"), text_of("docs", "CARD.md")
         picture = re.search(r"((?:    .*\n)+)", card).group(1)
         self.assertIn(picture, readme)
         for text in (readme, card):
             self.assertEqual(re.findall(r"^\| (\d+) \|", text, re.M), [str(k) for k in range(1, 12)])
+            self.assertRegex(text, r"(?m)^\| 7 \| given to no input any more: it once meant ")
 
     def test_links_lead_somewhere(self):
         for name in ("README.md", "docs/CARD.md", "examples/README.md", "examples/exercises.md"):

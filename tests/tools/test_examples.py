@@ -4,7 +4,7 @@ import os
 import re
 import unittest
 
-from support import ToolCase, faultlines, make_vectors, path, read, ringsim, simulated_scans, tool
+from support import ToolCase, faultlines, make_vectors, path, read, ringsim, sim, simulated_scans, tool
 
 
 def named(*pattern):
@@ -25,7 +25,7 @@ def simulated_plant(lines):
 
 
 def simulated_run(lines):
-    return ringsim.printed_run(faultlines.encode(lines))
+    return sim.printed_run(faultlines.encode(lines))
 
 
 def simulated_cuts(lines):
@@ -63,7 +63,7 @@ class Examples(ToolCase):
             with self.subTest(name):
                 expected, file = read("examples", name + ".run"), read("examples", name + ".faults")
                 status = int(expected.startswith(b"refused"))
-                self.assertEqual(ringsim.printed_run(file), expected)
+                self.assertEqual(sim.printed_run(file), expected)
                 self.check(tool("faultfile", "encode", path("examples", name + ".txt")), 0, file)
                 for end in (".txt", ".faults"):
                     self.check(tool("ringctl", path("examples", name + end)), status, expected)
@@ -112,6 +112,13 @@ class Examples(ToolCase):
         self.assertIn(b"B3=-", runs["cut-off"])
         self.assertIn(b"B4=G2h", runs["tie-of-four"])
         self.assertNotIn(b"=-", runs["planning-desk"])
+        *_, dark, first, lit, back, last = runs["generator-returns"].splitlines()
+        self.assertIn(b" B4=- B5=- / ", dark)
+        self.assertIn(b" B2=G2o B3=G2h B4=- B5=- / ", first)
+        self.assertNotIn(b"=-", lit)
+        self.assertIn(b" B1=G1o ", back)
+        self.assertTrue(last.endswith(b" / - / -"))
+        self.assertEqual(faultlines.reports_of(read("examples", "generator-returns.faults"))[-4:], [(1, 0), (4, 0), (0, 0), (3, 0)])
         self.assertIn(b"\nB5 7\nBB5\n", read("examples", "planning-desk.cuts"))
         self.assertIn(b" / - / -\n", read("examples", "one-cycle.scans"))
         self.assertNotIn(b"=-", read("examples", "one-cycle.scans"))
