@@ -122,13 +122,21 @@ class StoredRuns(unittest.TestCase):
 
     @classmethod
     def setUpClass(cls):
-        served = [(data, text) for data, text in stored_runs() if not text.startswith(b"refused")]
+        cls.runs = dict(stored_runs())
+        served = [(data, text) for data, text in cls.runs.items() if not text.startswith(b"refused")]
         cls.returns = [found for data, text in served for found in returns_of(data, text)]
 
     def some(self, holds):
         """In each of the rings there is a return of which this holds."""
         for n in RINGS:
             self.assertTrue(any(found.n == n and holds(found) for found in self.returns), n)
+
+    def test_the_papers_file(self):
+        """Document 01's `3 1 0 0 0`, which was its example of refusal 7; and word 0 for every generator of a started ring."""
+        self.assertEqual(self.runs[b"\3\1\0\0\0"], HEAD % 1 + START + NOTHING % 1)
+        for n in RINGS:
+            lines = self.runs[make_vectors.fault_file(n, [(code, 0) for code in range(n)])].splitlines()
+            self.assertEqual([line.split(b" / ")[1:] for line in lines[2:]], [[b"-", b"-"]] * n)
 
     def test_every_size_and_generator(self):
         self.assertEqual({(found.n, found.code) for found in self.returns if found.was_off and found.n in RINGS},
@@ -212,7 +220,7 @@ class Tools(ToolCase):
     """`G1 fit` by each command; bin/faultfile is in test_faultfile.py."""
 
     def test_word_0_for_a_fit_generator(self):
-        """Document 01's `3 1 0 0 0`, which was its example of refusal 7."""
+        """`3 1 0 0 0` by the commands: served, with two empty waves."""
         expected = HEAD % 1 + START + NOTHING % 1
         self.assertEqual(sim.printed_run(b"\3\1\0\0\0"), expected)
         self.assertEqual(program("ringctl", b"\3\1\0\0\0").out, expected)
