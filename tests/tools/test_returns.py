@@ -178,6 +178,19 @@ class StoredRuns(unittest.TestCase):
         self.some(lambda found: found.was_off and found.after.waves == ["-", "-"])
 
 
+class Gate(unittest.TestCase):
+    """What the gate runs the other programs on."""
+
+    def test_generators_return(self):
+        for name in ("ringtrace", "ringcuts"):
+            data = read("crates", name, "stdin")
+            self.assertTrue(any(found.was_off for found in returns_of(data, sim.printed_run(data))), name)
+        n, calls = make_vectors.gate_scans()
+        self.assertEqual(read("crates", "ringscan", "stdin"), make_vectors.scans_file(n, calls))
+        words = [report.word for call in calls for report in call if report.part == ringsim.Part("G", 2) and report.word < 2]
+        self.assertEqual(words, [1, 0, 1, 0])
+
+
 class StoredSteps(unittest.TestCase):
 
     def test_word_0_for_generators(self):
