@@ -3,7 +3,7 @@
 -- that fails and returns leaves the very record and the choices from before.
 use mathlib.Core.Path.{_≡_, refl, sym, _∙_, ap}
 use mathlib.Core.Bool.{Bool, true, false, cond}
-use mathlib.Core.Logic.{_⊎_, inl, inr}
+use mathlib.Core.Logic.{_⊎_, inl, inr, _↔_}
 use mathlib.Core.List.{List, [], _∷_}
 use mathlib.Core.Option.{some}
 use Prim.Native.Nat.{ℕ, _≤_, _<_}
@@ -18,8 +18,9 @@ use Rattle.model.specs.declared.Report.{Report}
 use Rattle.model.specs.declared.Ring.{Ring}
 use Rattle.model.specs.declared.RingAnswer.{RingAnswer}
 use Rattle.model.specs.declared.Outcome.the-variants.{Served}
+use Rattle.model.specs.declared.Choice.the-variants.{Dark}
 use Rattle.model.specs.Values.{samePart, wordNumber}
-use Rattle.model.specs.Plant.{PartHealth, largest, generator, generatorBreaker, busBreaker, fitGenerator, running, InRing}
+use Rattle.model.specs.Plant.{PartHealth, largest, generator, generatorBreaker, busBreaker, fitGenerator, running, InRing, Reaches}
 use Rattle.model.specs.Choosing.{commands}
 use Rattle.model.specs.Sheet.{written}
 use Rattle.model.specs.Reports.{reported, healthOf, commandsOf, healthPlaces, told, planned, withPlan}
@@ -37,8 +38,12 @@ use Rattle.demands.specs.Statements.Demand3.{
   afterWords,
   Phases,
   decode,
+  Call,
   step,
   Calls,
+  _then_,
+  replyTo,
+  words,
   isServed,
   World,
   Performed,
@@ -48,16 +53,18 @@ use Rattle.demands.specs.Statements.Demand3.{
   served,
   refused,
   whole,
+  shownAt,
   AsChosen,
+  wordRefusal,
   Good,
   no-reports,
   good-and,
   Demand3,
 }
 use Rattle.demands.specs.Statements.Returns.{Returns, none-returns, returns, Idle}
-use Rattle.demands.specs.Proofs.Operations.{perform-health, any-order}
 use Rattle.demands.specs.Statements.Records.{Arrays}
 use Rattle.demands.specs.Statements.Scans.{calledFor}
+use Rattle.demands.specs.Proofs.Operations.{perform-health, any-order}
 use Rattle.demands.specs.Proofs.Steady.{both-done, sheet-is}
 use Rattle.demands.specs.Proofs.Answering.{fullRoom, CallFine, call-ready, fine-served, call-served}
 use Rattle.demands.specs.Theorems.Demand3.{same-phases, words-last}
@@ -66,7 +73,7 @@ use Rattle.demands.specs.Theorems.Scans.{still}
 
 -- ---- what stands when the orders have ended
 
--- "A dark bus is judged by the generators fit after the latest word": the strokes alter no health
+-- the strokes alter no health
 pub judged-after : {ph : Phases} {P Q : PlantState} → Performed ph P Q → Q .health ≡ P .health
 judged-after {P = P} (performed {xs = xs} {ys = ys} ax ay) = perform-health ys _ ∙ perform-health xs P
 
@@ -88,6 +95,17 @@ module _ {c : Controller} (meets : Demand3 c) (n : ℕ) (buffer : List ℕ) (beg
   ended-planned {calls} (served call h e d q) p i =
       performed-planned (meets .holds n buffer begun calls .chosen call whole h e) d q p i
   ended-planned (refused call h e) p i = ended-planned h p i
+
+  -- "A dark bus is judged by the generators fit after the latest word.": when the orders of a served call have ended
+  pub dark-after-words : {before : Calls} {W : World} (call : Call) {ph : Phases} {Q : PlantState} → Ended c n buffer before W
+      → isServed (replyTo c (W .ring) call) ≡ true → decode n (replyTo c (W .ring) call .buffer) ≡ some ph
+      → Performed ph (afterWords (words call) (W .plant)) Q → (b : ℕ) → b < n
+      → let a = replyTo c (W .ring) call .answer in
+      shownAt (record { plant = Q; ring = a .ring; shown = a .choices }) b ≡ Dark
+      ↔ ((g : ℕ) → Reaches n (afterWords (words call) (W .plant) .health) b g → ⊥)
+  dark-after-words {before} call h e d q b hb =
+      let s = meets .holds n buffer begun (before then call) .shown whole (served call h e d q) b hb in
+      (rw (judged-after q) at (s .dark-unreached), rw (judged-after q) at (s .unreached-dark))
 
   -- a generator that is ordered on is fit
   ordered-fit : {calls : Calls} {W : World} → Ended c n buffer calls W → (g : ℕ) → g < n → W .plant .last (generator g) ≡ true
@@ -172,7 +190,7 @@ module _ (ring : Ring) (arrays : Arrays ring) (good : badRecord ring ≡ false) 
       same : ring .health ≡ healthPlaces (reported H r)
       same = health-is ring arrays (reported H r) (λ p i. at p (dec (samePart p (r .part))))
 
-  -- a word that repeats the present health, word 0 for a fit generator too: the very record, the choices it calls for, two empty waves
+  -- a word that repeats the present health: the very record, the choices it calls for, two empty waves
   pub word-repeated : (r : Report) → Good (ring .n) r → wordNumber (r .word) ≡ H (r .part) → (buffer : List ℕ) → 2 ≤ length buffer
       → stepReply ring r buffer ≡ record { answer = as-it-was; buffer = written (0 ∷ 0 ∷ []) buffer }
   unfolding servedReply servedAnswer toldAll
@@ -186,6 +204,14 @@ module _ (ring : Ring) (arrays : Arrays ring) (good : badRecord ring ≡ false) 
       record { few = omega arith; good = good-and g no-reports; fits = omega (arith, length-is, two, enough) } in
       let yes = fine-served (size .0) (size .1) steady call fine in
       call-served ring call yes ∙ rw (told-same r e, still ring good, plan-kept ring good arrays)
+
+  -- .. and so word 0 for a fit generator
+  pub fit-already : (k : ℕ) → InRing (ring .n) (Generator k) → H (Generator k) ≡ 0 → (buffer : List ℕ) → 2 ≤ length buffer
+      → stepReply ring (record { part = Generator k; word = Fit }) buffer
+      ≡ record { answer = as-it-was; buffer = written (0 ∷ 0 ∷ []) buffer }
+  unfolding wordRefusal
+  fit-already k inside fit-before buffer enough =
+      word-repeated (record { part = Generator k; word = Fit }) (record { inside = inside; word = refl }) (sym fit-before) buffer enough
 
   -- a ring of the same size and health has the same plan
   replanned-same : (R : Ring) → R .n ≡ ring .n → R .health ≡ ring .health → servedAnswer R ≡ as-it-was
