@@ -288,7 +288,7 @@ word-none r P p e = go (samePart p (r .part))
     go true c = absurd (not-closed (r .word) e c)
     go false c = c
 
-words-none : (rs : List Report) (P : PlantState) (p : Part) → anyOf (λ r. isStuckClosed (r .word)) rs ≡ false
+pub words-none : (rs : List Report) (P : PlantState) (p : Part) → anyOf (λ r. isStuckClosed (r .word)) rs ≡ false
     → stuckClosed (afterWords rs P .health p) ≡ true
     → stuckClosed (P .health p) ≡ true
 unfolding afterWords anyOf

@@ -6,12 +6,12 @@ use mathlib.Core.Bool.{Bool, true, false, cond}
 use mathlib.Core.Logic.{_⊎_, inl, inr, _↔_}
 use mathlib.Core.List.{List, [], _∷_}
 use mathlib.Core.Option.{some}
-use Prim.Native.Nat.{ℕ, _≤_, _<_}
+use Prim.Native.Nat.{ℕ, zero, suc, _≤_, _<_}
 use native.Mathlib.Omega.{arith}
 use lib.ListN.{length}
 use borrow.Author.Tests.{eqb-true}
 use Rattle.model.specs.declared.Part.{Part}
-use Rattle.model.specs.declared.Part.the-variants.{Generator}
+use Rattle.model.specs.declared.Part.the-variants.{Generator, GeneratorBreaker, BusBreaker}
 use Rattle.model.specs.declared.Word.{Word}
 use Rattle.model.specs.declared.Word.the-variants.{Fit}
 use Rattle.model.specs.declared.Report.{Report}
@@ -19,8 +19,9 @@ use Rattle.model.specs.declared.Ring.{Ring}
 use Rattle.model.specs.declared.RingAnswer.{RingAnswer}
 use Rattle.model.specs.declared.Outcome.the-variants.{Served}
 use Rattle.model.specs.declared.Choice.the-variants.{Dark}
+use Rattle.model.specs.Lists.{anyOf}
 use Rattle.model.specs.Values.{samePart, wordNumber}
-use Rattle.model.specs.Plant.{PartHealth, largest, generator, generatorBreaker, busBreaker, fitGenerator, running, InRing, Reaches}
+use Rattle.model.specs.Plant.{PartHealth, largest, generator, generatorBreaker, busBreaker, fitGenerator, stuckOpen, closed, running, InRing, Reaches}
 use Rattle.model.specs.Choosing.{commands}
 use Rattle.model.specs.Sheet.{written}
 use Rattle.model.specs.Reports.{reported, healthOf, commandsOf, healthPlaces, told, planned, withPlan}
@@ -30,7 +31,9 @@ use Rattle.model.specs.Scans.{toldAll}
 use Rattle.model.specs.Laws.Tests.{and-right, and-intro, dec}
 use Rattle.model.specs.Laws.Parts.{at-index, same-eq, health-places}
 use Rattle.model.specs.Laws.Refusals.{good-size}
-use Rattle.theory.specs.Theorems.Feeds.{Less, feed-alike, commanded-fit}
+use Rattle.theory.specs.Theorems.Feeds.{Less, feed-alike}
+use Rattle.theory.specs.Theorems.Interruption.{on-fit, breaker-free, line-free, was-closed}
+use Rattle.theory.specs.Theorems.Locality.{Agree}
 use Rattle.demands.specs.Statements.Demand3.{
   Controller,
   PlantState,
@@ -53,6 +56,7 @@ use Rattle.demands.specs.Statements.Demand3.{
   served,
   refused,
   whole,
+  isStuckClosed,
   shownAt,
   AsChosen,
   wordRefusal,
@@ -67,7 +71,7 @@ use Rattle.demands.specs.Statements.Scans.{calledFor}
 use Rattle.demands.specs.Proofs.Operations.{perform-health, any-order}
 use Rattle.demands.specs.Proofs.Steady.{both-done, sheet-is}
 use Rattle.demands.specs.Proofs.Answering.{fullRoom, CallFine, call-ready, fine-served, call-served}
-use Rattle.demands.specs.Theorems.Demand3.{same-phases, words-last}
+use Rattle.demands.specs.Theorems.Demand3.{same-phases, words-last, words-none}
 use Rattle.demands.specs.Theorems.Records.{health-is, served-step, plan-kept, good-steady, call-good}
 use Rattle.demands.specs.Theorems.Scans.{still}
 
@@ -89,8 +93,7 @@ performed-planned {n} {P} a d (performed {xs = xs} {ys = ys} ax ay) p i =
 
 module _ {c : Controller} (meets : Demand3 c) (n : ℕ) (buffer : List ℕ) (begun : isServed (c .start n buffer) ≡ true) where
   -- after every call, served or refused, the last orders are those that the plant's health calls for
-  pub ended-planned : {calls : Calls} {W : World} → Ended c n buffer calls W → (p : Part) → InRing n p
-      → W .plant .last p ≡ commands n (W .plant .health) p
+  ended-planned : {calls : Calls} {W : World} → Ended c n buffer calls W → Agree n (W .plant .last) (commands n (W .plant .health))
   ended-planned {calls} (started e d q) p i = performed-planned (meets .holds n buffer begun calls .start-chosen) d q p i
   ended-planned {calls} (served call h e d q) p i =
       performed-planned (meets .holds n buffer begun calls .chosen call whole h e) d q p i
@@ -107,19 +110,13 @@ module _ {c : Controller} (meets : Demand3 c) (n : ℕ) (buffer : List ℕ) (beg
       let s = meets .holds n buffer begun (before then call) .shown whole (served call h e d q) b hb in
       (rw (judged-after q) at (s .dark-unreached), rw (judged-after q) at (s .unreached-dark))
 
-  -- a generator that is ordered on is fit
-  ordered-fit : {calls : Calls} {W : World} → Ended c n buffer calls W → (g : ℕ) → g < n → W .plant .last (generator g) ≡ true
-      → fitGenerator (W .plant .health) g ≡ true
-  ordered-fit {W = W} h g hg e =
-      commanded-fit n (W .plant .health) g (sym (ended-planned h (generator g) (at-index n g hg)) ∙ e)
-
 -- ---- what returns do before the first stroke
 
 -- a fit part stays fit
 fit-stays : {rs : List Report} → Returns rs → (P : PlantState) (p : Part) → P .health p ≡ 0 → afterWords rs P .health p ≡ 0
 unfolding afterWords afterWord
 fit-stays none-returns P p e = e
-fit-stays (returns {rs = rs} k r) P p e = fit-stays r (afterWord (record { part = Generator k; word = Fit }) P) p (go (samePart p (Generator k)))
+fit-stays (returns k r) P p e = fit-stays r (afterWord (record { part = Generator k; word = Fit }) P) p (go (samePart p (Generator k)))
   where
     go : (t : Bool) → cond t 0 (P .health p) ≡ 0
     go true = refl
@@ -133,12 +130,33 @@ unfolding afterWords afterWord samePart
 breakers-stay none-returns P i = (refl, refl)
 breakers-stay (returns k r) P i = breakers-stay r (afterWord (record { part = Generator k; word = Fit }) P) i
 
-module _ (n : ℕ) (P : PlantState) (fits : (g : ℕ) → g < n → P .last (generator g) ≡ true → fitGenerator (P .health) g ≡ true) where
+-- a plant whose last orders are those that its health calls for
+module _ (n : ℕ) (P : PlantState) (planned : Agree n (P .last) (commands n (P .health))) where
+  -- a generator that is ordered on is fit
+  fits : (g : ℕ) → g < n → P .last (generator g) ≡ true → fitGenerator (P .health) g ≡ true
+  fits g hg e = on-fit n (P .health) g (sym (planned (generator g) (at-index n g hg)) ∙ e)
+
+  -- no part that is ordered on or closed is stuck open
+  free : (p : Part) → InRing n p → P .last p ≡ true → stuckOpen (P .health p) ≡ false
+  free (Generator zero) i e = absurd (omega (arith, i .0))
+  free (Generator (suc g)) i e = rw (eqb-true (P .health (generator g)) 0 (on-fit n (P .health) g (sym (planned (generator g) i) ∙ e)))
+  free (GeneratorBreaker zero) i e = absurd (omega (arith, i .0))
+  free (GeneratorBreaker (suc g)) i e = breaker-free n (P .health) g (sym (planned (generatorBreaker g) i) ∙ e)
+  free (BusBreaker zero) i e = absurd (omega (arith, i .0))
+  free (BusBreaker (suc k)) i e = line-free n (P .health) k (sym (planned (busBreaker k) i) ∙ e)
+
   no-start : (rs : List Report) (g : ℕ) → g < n → running (afterWords rs P .health) (afterWords rs P .last) g ≡ true
       → running (P .health) (P .last) g ≡ true
   no-start rs g hg e =
       let on : P .last (generator g) ≡ true = rw (words-last rs P) at (and-right (fitGenerator (afterWords rs P .health) g) _ e) in
       and-intro (fitGenerator (P .health) g) _ (fits g hg on) on
+
+  no-close : (rs : List Report) → anyOf (λ r. isStuckClosed (r .word)) rs ≡ false → (p : Part) → InRing n p
+      → closed (afterWords rs P .health p) (afterWords rs P .last p) ≡ true
+      → closed (P .health p) (P .last p) ≡ true
+  no-close rs none p i e =
+      was-closed (P .health p) (afterWords rs P .health p) (afterWords rs P .last p) (P .last p) (words-none rs P p none) (free p i)
+      (λ c. rw (words-last rs P) at c) e
 
   no-more : {rs : List Report} → Returns rs → Less n (afterWords rs P .health) (afterWords rs P .last) (P .health) (P .last)
   no-more {rs} r = record {
@@ -158,13 +176,14 @@ module _ (n : ℕ) (P : PlantState) (fits : (g : ℕ) → g < n → P .last (gen
   idle = record {
     orders-stand = λ rs. words-last rs P;
     none-starts = no-start;
+    none-closes = no-close;
     fed-as-before = λ rs r b hb. feed-alike (no-more r) (no-less r) b hb;
   }
 
 -- of every controller that meets demand 3, after every list of calls
 pub ended-idle : {c : Controller} → Demand3 c → (n : ℕ) (buffer : List ℕ) → isServed (c .start n buffer) ≡ true
     → {calls : Calls} {W : World} → Ended c n buffer calls W → Idle n (W .plant)
-ended-idle meets n buffer begun {W = W} h = idle n (W .plant) (ordered-fit meets n buffer begun h)
+ended-idle meets n buffer begun {W = W} h = idle n (W .plant) (ended-planned meets n buffer begun h)
 
 -- ---- "The last word decides; one that repeats the present health is accepted."
 

@@ -244,12 +244,6 @@ module _ (n : ℕ) (H : PartHealth) where
   unfolding commands
   commanded-at p e = on-at n all p e
 
-  -- a generator that is commanded on is fit: no standing command waits for a failed one to return
-  pub commanded-fit : (g : ℕ) → commands n H (generator g) ≡ true → fitGenerator H g ≡ true
-  commanded-fit g e =
-      let c = commanded-at (generator g) e in
-      rw (generator-on n (c .0) g (c .2)) (all-safe .usables (c .0) (c .1) .runs)
-
   commanded-in : {w : Path} (p : Part) → w ∈ all → p ∈ pathParts n w → commands n H p ≡ true
   unfolding commands
   commanded-in p m q = on-in n p m q

@@ -29,7 +29,7 @@ use Rattle.theory.specs.Theorems.Feeds.{Single, Less, single, single-les
 abbrev pub Fewer : ℕ → PartCommands → PartCommands → Type 0
 Fewer n C D = (p : Part) → InRing n p → C p ≡ true → D p ≡ true
 
--- a part of a plan is fit, or a breaker that is not stuck open
+-- a part of a plan is fit, or a breaker that is not stuck open: no command waits for a failed part to return
 module _ (n : ℕ) (H : PartHealth) where
   safe : Safe n H (chosen n H n)
   safe = safe-chosen n H n (omega arith)
@@ -37,11 +37,11 @@ module _ (n : ℕ) (H : PartHealth) where
   pub on-fit : (g : ℕ) → commands n H (generator g) ≡ true → fitGenerator H g ≡ true
   on-fit g e = let t = commanded-at n H (generator g) e in rw (generator-on n (t .0) g (t .2)) (safe .usables (t .0) (t .1) .runs)
 
-  breaker-free : (g : ℕ) → commands n H (generatorBreaker g) ≡ true → stuckOpen (H (generatorBreaker g)) ≡ false
+  pub breaker-free : (g : ℕ) → commands n H (generatorBreaker g) ≡ true → stuckOpen (H (generatorBreaker g)) ≡ false
   breaker-free g e =
       let t = commanded-at n H (generatorBreaker g) e in rw (generator-breaker-on n (t .0) g (t .2)) (safe .usables (t .0) (t .1) .breaker)
 
-  line-free : (i : ℕ) → commands n H (busBreaker i) ≡ true → stuckOpen (H (busBreaker i)) ≡ false
+  pub line-free : (i : ℕ) → commands n H (busBreaker i) ≡ true → stuckOpen (H (busBreaker i)) ≡ false
   line-free i e =
       let t = commanded-at n H (busBreaker i) e in
       let u = path-at i (safe .ends (t .0) (t .1)) (bus-breaker-on n (t .0) i (t .2)) in
@@ -53,7 +53,7 @@ pub record NoneStuckClosed (n : ℕ) (H K : PartHealth) : Type 0 where
   pub line : (i : ℕ) → i < n → stuckClosed (K (busBreaker i)) ≡ true → stuckClosed (H (busBreaker i)) ≡ true
 
 -- a breaker that is closed by health k and command c was closed by health h and command d
-was-closed : (h k : ℕ) (c d : Bool) → (stuckClosed k ≡ true → stuckClosed h ≡ true) → (d ≡ true → stuckOpen h ≡ false)
+pub was-closed : (h k : ℕ) (c d : Bool) → (stuckClosed k ≡ true → stuckClosed h ≡ true) → (d ≡ true → stuckOpen h ≡ false)
     → (c ≡ true → d ≡ true) → closed k c ≡ true
     → closed h d ≡ true
 was-closed h k c d stuck free fewer e = go (closed-case k c e)
