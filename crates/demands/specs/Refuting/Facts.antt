@@ -1,23 +1,30 @@
 -- Facts of the tables in demand 3's statement: the words of a call, what is excepted, and what the decoder takes.
-use mathlib.Core.Path.{_≡_, refl}
-use mathlib.Core.Bool.{true, false}
-use mathlib.Core.List.{[], _∷_}
+use mathlib.Core.Path.{_≡_, refl, ap}
+use mathlib.Core.Bool.{true, false, _||_, cond}
+use mathlib.Core.Logic.{_⊎_, inl, inr}
+use mathlib.Core.List.{[], _∷_, List·Memᴰ·not-nil}
 use mathlib.Core.Option.{none, some}
+use native.Mathlib.Omega.{arith}
+use lib.ListN.{length}
 use Rattle.model.specs.declared.Part.{Part}
-use Rattle.model.specs.declared.Part.the-variants.{Generator, BusBreaker}
+use Rattle.model.specs.declared.Part.the-variants.{Generator, GeneratorBreaker, BusBreaker}
 use Rattle.model.specs.declared.Word.{Word}
 use Rattle.model.specs.declared.Word.the-variants.{Fit, StuckOff, StuckOpen, StuckClosed}
 use Rattle.model.specs.declared.Report.{Report}
-use Rattle.model.specs.Lists.{below, first, anyOf}
-use Rattle.model.specs.Values.{partCode, samePart}
-use Rattle.model.specs.Plant.{parts}
+use Rattle.model.specs.declared.Feed.the-variants.{Dark, Fed}
+use Rattle.model.specs.Lists.{below, keep, first, anyOf, allOf, _∈_}
+use Rattle.model.specs.Values.{partCode, samePart, feedSources}
+use Rattle.model.specs.Plant.{parts, up, arc, connected, feeds, feeders, feedBy, busFeed}
 use Rattle.model.specs.Reports.{partNamed}
+use Rattle.model.specs.Laws.Tests.{contra}
 use Rattle.demands.specs.Statements.Demand3.{
+  PlantState,
   freshPlant,
   afterWord,
   afterWords,
   Operation,
   operation,
+  performAll,
   commandNamed,
   withOperation,
   operations,
@@ -25,6 +32,7 @@ use Rattle.demands.specs.Statements.Demand3.{
   decode,
   excepted,
 }
+use Rattle.demands.specs.Statements.Returns.{none-returns, returns, ByOperationAlone}
 
 -- a report of a part and a word
 abbrev pub report : Part → Word → Report
@@ -80,3 +88,45 @@ decodes :
     × (operations 3 (64 ∷ []) [] ≡ none)
 unfolding decode phasesAt operations withOperation commandNamed partNamed partCode parts below first
 decodes = (refl, refl, refl, refl, refl, refl, refl, refl)
+
+-- ---- a plant in which an order waits for a part to return does not have what is claimed of every list's
+
+-- G1 is stuck off and ordered on, and GB1 closed
+abbrev waitingOn : PlantState
+waitingOn = record {
+  health = λ p. cond (samePart p (Generator 1)) 1 0;
+  last = λ p. samePart p (Generator 1) || samePart p (GeneratorBreaker 1);
+}
+
+-- BB1 is stuck open and ordered closed
+abbrev waitingClosed : PlantState
+waitingClosed = record { health = λ p. cond (samePart p (BusBreaker 1)) 2 0; last = λ p. samePart p (BusBreaker 1) }
+
+none-in : {A : Type 0} {x : A} → x ∈ [] → ⊥
+none-in m = List·Memᴰ·not-nil m
+
+-- G1 starts as it returns, without an operation
+starts-refuted : ByOperationAlone 3 waitingOn → ⊥
+unfolding afterWords afterWord performAll samePart
+starts-refuted b = go (b .starts (report (Generator 1) Fit ∷ []) [] 0 (omega arith) refl)
+  where
+    go : (false ≡ true) ⊎ (operation true (Generator 1) ∈ []) → ⊥
+    go (inl e) = contra e refl
+    go (inr m) = none-in m
+
+-- BB1 closes
+closes-refuted : ByOperationAlone 3 waitingClosed → ⊥
+unfolding afterWords afterWord performAll samePart anyOf
+closes-refuted b = go (b .closes (report (BusBreaker 1) Fit ∷ []) [] (BusBreaker 1) (omega arith, omega arith) refl refl)
+  where
+    go : (false ≡ true) ⊎ (operation true (BusBreaker 1) ∈ []) → ⊥
+    go (inl e) = contra e refl
+    go (inr m) = none-in m
+
+-- B1 is lit before the first operation
+feeds-refuted : ByOperationAlone 3 waitingOn → ⊥
+unfolding afterWords afterWord samePart busFeed feeders feeds feedBy keep below connected arc up allOf
+feeds-refuted b =
+    let lit : Fed 1 ≡ Dark = b .fed-as-before (report (Generator 1) Fit ∷ []) (returns 1 none-returns) 0 (omega arith) in
+    let sources = ap (λ f. length (feedSources f)) lit in
+    omega (arith, sources)

@@ -273,7 +273,7 @@ unfolding afterWords afterWord
 words-last [] P = refl
 words-last (r ∷ rs) P = words-last rs (afterWord r P)
 
-not-closed : (w : Word) → isStuckClosed w ≡ false → stuckClosed (effect w) ≡ true → ⊥
+pub not-closed : (w : Word) → isStuckClosed w ≡ false → stuckClosed (effect w) ≡ true → ⊥
 not-closed Fit e c = contra c refl
 not-closed StuckOff e c = contra c refl
 not-closed StuckOpen e c = contra c refl
@@ -288,7 +288,7 @@ word-none r P p e = go (samePart p (r .part))
     go true c = absurd (not-closed (r .word) e c)
     go false c = c
 
-pub words-none : (rs : List Report) (P : PlantState) (p : Part) → anyOf (λ r. isStuckClosed (r .word)) rs ≡ false
+words-none : (rs : List Report) (P : PlantState) (p : Part) → anyOf (λ r. isStuckClosed (r .word)) rs ≡ false
     → stuckClosed (afterWords rs P .health p) ≡ true
     → stuckClosed (P .health p) ≡ true
 unfolding afterWords anyOf

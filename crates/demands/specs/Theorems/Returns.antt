@@ -2,9 +2,9 @@
 -- and a dark bus is judged by the health after the latest word. Of ours: a word that repeats the present health changes nothing, and a part
 -- that fails and returns leaves the very record and the choices from before.
 use mathlib.Core.Path.{_≡_, refl, sym, _∙_, ap}
-use mathlib.Core.Bool.{Bool, true, false, cond}
+use mathlib.Core.Bool.{Bool, true, false, _&&_, cond}
 use mathlib.Core.Logic.{_⊎_, inl, inr, _↔_}
-use mathlib.Core.List.{List, [], _∷_}
+use mathlib.Core.List.{List, [], _∷_, List·Memᴰ·head, List·Memᴰ·tail, List·Memᴰ·eq-of-singleton}
 use mathlib.Core.Option.{some}
 use Prim.Native.Nat.{ℕ, zero, suc, _≤_, _<_}
 use native.Mathlib.Omega.{arith}
@@ -19,26 +19,31 @@ use Rattle.model.specs.declared.Ring.{Ring}
 use Rattle.model.specs.declared.RingAnswer.{RingAnswer}
 use Rattle.model.specs.declared.Outcome.the-variants.{Served}
 use Rattle.model.specs.declared.Choice.the-variants.{Dark}
-use Rattle.model.specs.Lists.{anyOf}
+use Rattle.model.specs.Lists.{anyOf, _∈_}
 use Rattle.model.specs.Values.{samePart, wordNumber}
-use Rattle.model.specs.Plant.{PartHealth, largest, generator, generatorBreaker, busBreaker, fitGenerator, stuckOpen, closed, running, InRing, Reaches}
+use Rattle.model.specs.Plant.{PartHealth, largest, generator, generatorBreaker, busBreaker, fitGenerator, stuckOpen, stuckClosed, closed, running, InRing, Reaches}
 use Rattle.model.specs.Choosing.{commands}
 use Rattle.model.specs.Sheet.{written}
 use Rattle.model.specs.Reports.{reported, healthOf, commandsOf, healthPlaces, told, planned, withPlan}
 use Rattle.model.specs.Refusals.{badRecord, nextSheet}
 use Rattle.model.specs.Answers.{Reply, servedAnswer, servedReply, stepReply}
 use Rattle.model.specs.Scans.{toldAll}
-use Rattle.model.specs.Laws.Tests.{and-right, and-intro, dec}
+use Rattle.model.specs.Laws.Tests.{and-right, and-intro, or-left, or-none, dec}
 use Rattle.model.specs.Laws.Parts.{at-index, same-eq, health-places}
 use Rattle.model.specs.Laws.Refusals.{good-size}
-use Rattle.theory.specs.Theorems.Feeds.{Less, feed-alike}
-use Rattle.theory.specs.Theorems.Interruption.{on-fit, breaker-free, line-free, was-closed}
+use Rattle.theory.specs.Theorems.Feeds.{Less, feed-alike, closed-case, closed-by}
+use Rattle.theory.specs.Theorems.Interruption.{on-fit, breaker-free, line-free}
 use Rattle.theory.specs.Theorems.Locality.{Agree}
 use Rattle.demands.specs.Statements.Demand3.{
   Controller,
   PlantState,
+  effect,
   afterWord,
   afterWords,
+  Operation,
+  operation,
+  perform,
+  performAll,
   Phases,
   decode,
   Call,
@@ -47,6 +52,8 @@ use Rattle.demands.specs.Statements.Demand3.{
   _then_,
   replyTo,
   words,
+  count,
+  lent,
   isServed,
   World,
   Performed,
@@ -61,17 +68,19 @@ use Rattle.demands.specs.Statements.Demand3.{
   AsChosen,
   wordRefusal,
   Good,
+  AllGood,
   no-reports,
   good-and,
   Demand3,
 }
-use Rattle.demands.specs.Statements.Returns.{Returns, none-returns, returns, Idle}
+use Rattle.demands.specs.Statements.Returns.{Returns, none-returns, returns, meanwhile, ByOperationAlone}
 use Rattle.demands.specs.Statements.Records.{Arrays}
 use Rattle.demands.specs.Statements.Scans.{calledFor}
+use Rattle.demands.specs.Controller.{controller}
 use Rattle.demands.specs.Proofs.Operations.{perform-health, any-order}
 use Rattle.demands.specs.Proofs.Steady.{both-done, sheet-is}
 use Rattle.demands.specs.Proofs.Answering.{fullRoom, CallFine, call-ready, fine-served, call-served}
-use Rattle.demands.specs.Theorems.Demand3.{same-phases, words-last, words-none}
+use Rattle.demands.specs.Theorems.Demand3.{same-phases, words-last, not-closed}
 use Rattle.demands.specs.Theorems.Records.{health-is, served-step, plan-kept, good-steady, call-good}
 use Rattle.demands.specs.Theorems.Scans.{still}
 
@@ -130,6 +139,42 @@ unfolding afterWords afterWord samePart
 breakers-stay none-returns P i = (refl, refl)
 breakers-stay (returns k r) P i = breakers-stay r (afterWord (record { part = Generator k; word = Fit }) P) i
 
+-- a part that is ordered on or closed was so before, or by an operation on it
+performed-by : (os : List Operation) (Q : PlantState) (p : Part) → performAll os Q .last p ≡ true
+    → (Q .last p ≡ true) ⊎ (operation true p ∈ os)
+unfolding performAll perform
+performed-by [] Q p e = inl e
+performed-by (o ∷ os) Q p e = go (performed-by os (perform o Q) p e) (dec (samePart p (o .part)))
+  where
+    go : (cond (samePart p (o .part)) (o .command) (Q .last p) ≡ true) ⊎ (operation true p ∈ os)
+        → (samePart p (o .part) ≡ true) ⊎ (samePart p (o .part) ≡ false)
+        → (Q .last p ≡ true) ⊎ (operation true p ∈ o ∷ os)
+    go (inr m) t = inr (List·Memᴰ·tail m)
+    go (inl c) (inl t) =
+        let is : operation true p ≡ o = λ i. record { part = same-eq p (o .part) t i; command = sym (rw t at c) i } in
+        inr (List·Memᴰ·head is)
+    go (inl c) (inr t) = inl (rw t at c)
+
+-- .. words order nothing
+ordered-by : (rs : List Report) (os : List Operation) (P : PlantState) (p : Part) → meanwhile rs os P .last p ≡ true
+    → (P .last p ≡ true) ⊎ (operation true p ∈ os)
+ordered-by rs os P p e = rw (words-last rs P) at (performed-by os (afterWords rs P) p e)
+
+-- a part that no word has stuck closed is stuck closed only if it was before
+not-stuck : (rs : List Report) (P : PlantState) (p : Part) → anyOf (λ r. samePart p (r .part) && isStuckClosed (r .word)) rs ≡ false
+    → stuckClosed (afterWords rs P .health p) ≡ true → stuckClosed (P .health p) ≡ true
+unfolding afterWords afterWord anyOf
+not-stuck [] P p e c = c
+not-stuck (r ∷ rs) P p e c =
+    let t = or-none (samePart p (r .part) && isStuckClosed (r .word)) _ e in
+    go (dec (samePart p (r .part))) (t .0) (not-stuck rs (afterWord r P) p (t .1) c)
+  where
+    go : (samePart p (r .part) ≡ true) ⊎ (samePart p (r .part) ≡ false) → samePart p (r .part) && isStuckClosed (r .word) ≡ false
+        → stuckClosed (cond (samePart p (r .part)) (effect (r .word)) (P .health p)) ≡ true
+        → stuckClosed (P .health p) ≡ true
+    go (inl s) f d = absurd (not-closed (r .word) (rw s at f) (rw s at d))
+    go (inr s) f d = rw s at d
+
 -- a plant whose last orders are those that its health calls for
 module _ (n : ℕ) (P : PlantState) (planned : Agree n (P .last) (commands n (P .health))) where
   -- a generator that is ordered on is fit
@@ -145,18 +190,31 @@ module _ (n : ℕ) (P : PlantState) (planned : Agree n (P .last) (commands n (P 
   free (BusBreaker zero) i e = absurd (omega (arith, i .0))
   free (BusBreaker (suc k)) i e = line-free n (P .health) k (sym (planned (busBreaker k) i) ∙ e)
 
-  no-start : (rs : List Report) (g : ℕ) → g < n → running (afterWords rs P .health) (afterWords rs P .last) g ≡ true
-      → running (P .health) (P .last) g ≡ true
-  no-start rs g hg e =
-      let on : P .last (generator g) ≡ true = rw (words-last rs P) at (and-right (fitGenerator (afterWords rs P .health) g) _ e) in
-      and-intro (fitGenerator (P .health) g) _ (fits g hg on) on
+  started-by : (rs : List Report) (os : List Operation) (g : ℕ) → g < n
+      → running (meanwhile rs os P .health) (meanwhile rs os P .last) g ≡ true
+      → (running (P .health) (P .last) g ≡ true) ⊎ (operation true (generator g) ∈ os)
+  started-by rs os g hg e = go (ordered-by rs os P (generator g) (and-right (fitGenerator (meanwhile rs os P .health) g) _ e))
+    where
+      go : (P .last (generator g) ≡ true) ⊎ (operation true (generator g) ∈ os)
+          → (running (P .health) (P .last) g ≡ true) ⊎ (operation true (generator g) ∈ os)
+      go (inl on) = inl (and-intro (fitGenerator (P .health) g) _ (fits g hg on) on)
+      go (inr m) = inr m
 
-  no-close : (rs : List Report) → anyOf (λ r. isStuckClosed (r .word)) rs ≡ false → (p : Part) → InRing n p
-      → closed (afterWords rs P .health p) (afterWords rs P .last p) ≡ true
-      → closed (P .health p) (P .last p) ≡ true
-  no-close rs none p i e =
-      was-closed (P .health p) (afterWords rs P .health p) (afterWords rs P .last p) (P .last p) (words-none rs P p none) (free p i)
-      (λ c. rw (words-last rs P) at c) e
+  closed-by-stroke : (rs : List Report) (os : List Operation) (p : Part) → InRing n p
+      → anyOf (λ r. samePart p (r .part) && isStuckClosed (r .word)) rs ≡ false
+      → closed (meanwhile rs os P .health p) (meanwhile rs os P .last p) ≡ true
+      → (closed (P .health p) (P .last p) ≡ true) ⊎ (operation true p ∈ os)
+  closed-by-stroke rs os p i none e = go (closed-case (meanwhile rs os P .health p) (meanwhile rs os P .last p) e)
+    where
+      by : (P .last p ≡ true) ⊎ (operation true p ∈ os) → (closed (P .health p) (P .last p) ≡ true) ⊎ (operation true p ∈ os)
+      by (inl c) = inl (closed-by (P .health p) (P .last p) (free p i c) c)
+      by (inr m) = inr m
+
+      go : (stuckClosed (meanwhile rs os P .health p) ≡ true)
+          ⊎ ((stuckOpen (meanwhile rs os P .health p) ≡ false) × (meanwhile rs os P .last p ≡ true))
+          → (closed (P .health p) (P .last p) ≡ true) ⊎ (operation true p ∈ os)
+      go (inl t) = inl (or-left (stuckClosed (P .health p)) _ (not-stuck rs P p none (rw (perform-health os (afterWords rs P)) at t)))
+      go (inr t) = by (ordered-by rs os P p (t .1))
 
   no-more : {rs : List Report} → Returns rs → Less n (afterWords rs P .health) (afterWords rs P .last) (P .health) (P .last)
   no-more {rs} r = record {
@@ -172,18 +230,17 @@ module _ (n : ℕ) (P : PlantState) (planned : Agree n (P .last) (commands n (P 
     line = λ i hi c. rw (words-last rs P, breakers-stay r P i .1) c;
   }
 
-  idle : Idle n P
-  idle = record {
-    orders-stand = λ rs. words-last rs P;
-    none-starts = no-start;
-    none-closes = no-close;
+  by-operation : ByOperationAlone n P
+  by-operation = record {
+    starts = started-by;
+    closes = closed-by-stroke;
     fed-as-before = λ rs r b hb. feed-alike (no-more r) (no-less r) b hb;
   }
 
 -- of every controller that meets demand 3, after every list of calls
-pub ended-idle : {c : Controller} → Demand3 c → (n : ℕ) (buffer : List ℕ) → isServed (c .start n buffer) ≡ true
-    → {calls : Calls} {W : World} → Ended c n buffer calls W → Idle n (W .plant)
-ended-idle meets n buffer begun {W = W} h = idle n (W .plant) (ended-planned meets n buffer begun h)
+pub ended-by-operation : {c : Controller} → Demand3 c → (n : ℕ) (buffer : List ℕ) → isServed (c .start n buffer) ≡ true
+    → {calls : Calls} {W : World} → Ended c n buffer calls W → ByOperationAlone n (W .plant)
+ended-by-operation meets n buffer begun {W = W} h = by-operation n (W .plant) (ended-planned meets n buffer begun h)
 
 -- ---- "The last word decides; one that repeats the present health is accepted."
 
@@ -209,20 +266,26 @@ module _ (ring : Ring) (arrays : Arrays ring) (good : badRecord ring ≡ false) 
       same : ring .health ≡ healthPlaces (reported H r)
       same = health-is ring arrays (reported H r) (λ p i. at p (dec (samePart p (r .part))))
 
-  -- a word that repeats the present health: the very record, the choices it calls for, two empty waves
-  pub word-repeated : (r : Report) → Good (ring .n) r → wordNumber (r .word) ≡ H (r .part) → (buffer : List ℕ) → 2 ≤ length buffer
-      → stepReply ring r buffer ≡ record { answer = as-it-was; buffer = written (0 ∷ 0 ∷ []) buffer }
-  unfolding servedReply servedAnswer toldAll
-  word-repeated r g e buffer enough =
+  told-all-same : (rs : List Report) → ((r : Report) → r ∈ rs → wordNumber (r .word) ≡ H (r .part)) → toldAll ring rs ≡ ring
+  unfolding toldAll
+  told-all-same [] same = refl
+  told-all-same (r ∷ rs) same =
+      rw (told-same r (same r (List·Memᴰ·head refl))) (told-all-same rs (λ q m. same q (List·Memᴰ·tail m)))
+
+  -- a step or a scan whose words repeat the present health: the very record, the choices it calls for, two empty waves
+  pub words-repeated : (call : Call) → count call ≤ 64 → AllGood (ring .n) (words call)
+      → ((r : Report) → r ∈ words call → wordNumber (r .word) ≡ H (r .part)) → 2 ≤ length (lent call)
+      → replyTo controller ring call ≡ record { answer = as-it-was; buffer = written (0 ∷ 0 ∷ []) (lent call) }
+  unfolding servedReply servedAnswer
+  words-repeated call few goods same enough =
       let size = good-size ring good in
       let steady = good-steady ring good in
-      let call = step r buffer in
       let length-is = ap length (sheet-is (size .1) (call-ready (size .1) steady call)) in
-      let two : length (nextSheet (told ring r)) ≡ 2 = rw (told-same r e, still ring good) in
+      let two : length (nextSheet (toldAll ring (words call))) ≡ 2 = rw (told-all-same (words call) same, still ring good) in
       let fine : CallFine (ring .n) (record { health = H; last = commandsOf (ring .commands) }) call =
-      record { few = omega arith; good = good-and g no-reports; fits = omega (arith, length-is, two, enough) } in
+      record { few = few; good = goods; fits = omega (arith, length-is, two, enough) } in
       let yes = fine-served (size .0) (size .1) steady call fine in
-      call-served ring call yes ∙ rw (told-same r e, still ring good, plan-kept ring good arrays)
+      call-served ring call yes ∙ rw (told-all-same (words call) same, still ring good, plan-kept ring good arrays)
 
   -- .. and so word 0 for a fit generator
   pub fit-already : (k : ℕ) → InRing (ring .n) (Generator k) → H (Generator k) ≡ 0 → (buffer : List ℕ) → 2 ≤ length buffer
@@ -230,12 +293,15 @@ module _ (ring : Ring) (arrays : Arrays ring) (good : badRecord ring ≡ false) 
       ≡ record { answer = as-it-was; buffer = written (0 ∷ 0 ∷ []) buffer }
   unfolding wordRefusal
   fit-already k inside fit-before buffer enough =
-      word-repeated (record { part = Generator k; word = Fit }) (record { inside = inside; word = refl }) (sym fit-before) buffer enough
+      let r : Report = record { part = Generator k; word = Fit } in
+      let g : Good (ring .n) r = record { inside = inside; word = refl } in
+      words-repeated (step r buffer) (omega arith) (good-and g no-reports)
+      (λ q m. rw (List·Memᴰ·eq-of-singleton m) (sym fit-before)) enough
 
   -- a ring of the same size and health has the same plan
   replanned-same : (R : Ring) → R .n ≡ ring .n → R .health ≡ ring .health → servedAnswer R ≡ as-it-was
   unfolding servedAnswer withPlan planned
-  replanned-same R n-is health-is = rw (n-is, health-is) (ap (λ x. record { outcome = Served; ring = x; choices = calledFor ring }) (plan-kept ring good arrays))
+  replanned-same R n-same same = rw (n-same, same) (ap (λ x. record { outcome = Served; ring = x; choices = calledFor ring }) (plan-kept ring good arrays))
 
   -- a fit part fails and returns: the very record, and the choices that it calls for
   module _ (p : Part) (w : Word) (fit-before : H p ≡ 0) where
@@ -265,10 +331,10 @@ module _ (ring : Ring) (arrays : Arrays ring) (good : badRecord ring ≡ false) 
         let first : stepReply ring fails fullRoom ≡ servedReply (told ring fails) fullRoom =
         call-served ring (step fails fullRoom) (served-step (size .0) (size .1) (good-steady ring good) fails g) in
         let n-is : failed .n ≡ ring .n = ap (λ (x : Reply). x .answer .ring .n) first in
-        let health-is : failed .health ≡ healthPlaces (reported H fails) = ap (λ (x : Reply). x .answer .ring .health) first in
+        let stored : failed .health ≡ healthPlaces (reported H fails) = ap (λ (x : Reply). x .answer .ring .health) first in
         let still-good = call-good ring good (step fails fullRoom) in
         let bounds = good-size failed still-good in
         let second : stepReply failed returning fullRoom ≡ servedReply (told failed returning) fullRoom =
         call-served failed (step returning fullRoom)
         (served-step (bounds .0) (bounds .1) (good-steady failed still-good) returning (rw n-is h)) in
-        ap (λ (x : Reply). x .answer) second ∙ replanned-same (told failed returning) n-is (rw health-is (sym health-back))
+        ap (λ (x : Reply). x .answer) second ∙ replanned-same (told failed returning) n-is (rw stored (sym health-back))

@@ -53,7 +53,7 @@ pub record NoneStuckClosed (n : ℕ) (H K : PartHealth) : Type 0 where
   pub line : (i : ℕ) → i < n → stuckClosed (K (busBreaker i)) ≡ true → stuckClosed (H (busBreaker i)) ≡ true
 
 -- a breaker that is closed by health k and command c was closed by health h and command d
-pub was-closed : (h k : ℕ) (c d : Bool) → (stuckClosed k ≡ true → stuckClosed h ≡ true) → (d ≡ true → stuckOpen h ≡ false)
+was-closed : (h k : ℕ) (c d : Bool) → (stuckClosed k ≡ true → stuckClosed h ≡ true) → (d ≡ true → stuckOpen h ≡ false)
     → (c ≡ true → d ≡ true) → closed k c ≡ true
     → closed h d ≡ true
 was-closed h k c d stuck free fewer e = go (closed-case k c e)
