@@ -1,4 +1,4 @@
-"""Refusal 7 is given to no input (document 02, Note 3): the theorem that says so names every call that answers a refusal."""
+"""Refusal 7 is given to no input (document 02, Note 3): the theorem that says so names every call that finds a refusal."""
 import glob
 import os
 import re
@@ -7,34 +7,70 @@ import unittest
 from support import path, read
 
 STATEMENT = read("crates", "theory", "specs", "Statements", "Numbers.antt").decode()
-CALL = re.compile(r"^pub fn (\w+)\(([^)]*)\)\s*->\s*(\w+)", re.MULTILINE)
+NAME = re.compile(r"\w+::\w+")
+HANDED = {"rings::refused"}     # answers the number that it is handed
+
+
+def sources():
+    """The text of each crate's code."""
+    for file in sorted(glob.glob(path("crates", "*", "src", "*.rt"))):
+        with open(file, encoding="utf-8") as source:
+            yield file[len(path("crates")) + 1:].split(os.sep)[0], source.read()
+
+
+def answer_types():
+    """The declared types that can hold a refusal: an enum with such a case, or what holds one of these."""
+    bodies = {name: body for _, text in sources() for name, body in re.findall(r"pub (?:enum|struct) (\w+) \{(.*?)^\}", text, re.S | re.M)}
+    types = {name for name, body in bodies.items() if re.search(r"\bRefused\(", body)}
+    while True:
+        more = {name for name, body in bodies.items() if any(re.search(r"\b%s\b" % kind, body) for kind in types)} - types
+        if not more:
+            return types
+        types |= more
 
 
 def calls():
-    """The public calls of the crates, with the type of their answers."""
-    for file in glob.glob(path("crates", "*", "src", "*.rt")):
-        crate = file[len(path("crates")) + 1:].split(os.sep)[0]
-        with open(file, encoding="utf-8") as source:
-            yield from (("%s::%s" % (crate, name), answer) for name, _, answer in CALL.findall(source.read()))
+    """The public calls, with the type of their answers and what their contracts promise of these: the definitions named first."""
+    for crate, text in sources():
+        for name, _, answer, contract in re.findall(r"^pub fn (\w+)\(([^)]*)\)\s*->\s*([\w\[\]; ]+?)\n(.*?)^\{", text, re.S | re.M):
+            promised = re.search(r"ensures(?: answer)? \{(.*?)⌝ \}", contract, re.S)
+            yield "%s::%s" % (crate, name), answer.strip(), re.findall(r"\b[a-z]+[A-Z]\w*", promised.group(1))[:2] if promised else []
+
+
+def groups():
+    """The fields of the statement, each with the calls that the comment above it names."""
+    for comment, fields in re.findall(r"^  -- (.*)\n((?:  pub .*\n(?:      .*\n)*)+)", STATEMENT, re.M):
+        yield NAME.findall(comment), dict(re.findall(r"^  pub ([\w-]+) : (.*(?:\n      .*)*)", fields, re.M))
 
 
 class Named(unittest.TestCase):
-    def test_every_call_that_answers_a_refusal_is_named(self):
-        answering = {call for call, answer in calls() if answer == "Outcome" or answer.endswith("Answer")}
-        named = set(re.findall(r"\w+::\w+", STATEMENT))
-        self.assertGreaterEqual(len(answering), 15)
-        self.assertEqual(answering - named, set(), "not named in Statements/Numbers")
-        self.assertEqual(named - {call for call, _ in calls()}, set(), "named in Statements/Numbers, but no call")
 
-    def test_each_named_call_has_a_field(self):
-        fields = set(re.findall(r"^  pub ([\w-]+) :", STATEMENT, re.MULTILINE))
-        comments = re.findall(r"^  -- (.*)$", STATEMENT, re.MULTILINE)
-        calls_of_fields = {call.split("::")[1].replace("_", "-") for comment in comments for call in re.findall(r"\w+::\w+", comment)}
-        self.assertEqual(calls_of_fields - fields, {"fill"})    # whose pieces are the printed run
+    def test_the_answers_that_hold_refusals(self):
+        self.assertLessEqual({"Outcome", "RingAnswer", "FileAnswer", "CutSetsAnswer", "PartAnswer", "WordAnswer", "LatestAnswer"}, answer_types())
 
-    def test_the_theorem_is_about_7(self):
-        theorem = read("crates", "theory", "specs", "Theorems", "Numbers.antt").decode()
-        self.assertIn("\npub never-seven : NeverGiven 7\n", theorem)
+    def test_every_call_that_finds_a_refusal_has_its_field(self):
+        """It is named above a field of its name, which speaks of the definition that its contract equates the answer with."""
+        types, seen = answer_types(), []
+        for call, answer, promised in calls():
+            if answer not in types or call in HANDED:
+                continue
+            fields = [text for names, fields in groups() if call in names for name, text in fields.items()
+                      if name == call.split("::")[1].replace("_", "-")]
+            self.assertEqual(len(fields), 1, call)
+            self.assertTrue(promised, call)
+            for definition in promised:
+                self.assertRegex(fields[0], r"\b%s\b" % definition, call)
+            seen.append(call)
+        self.assertGreaterEqual(len(seen), 16)
+
+    def test_every_name_is_a_call(self):
+        self.assertEqual(set(NAME.findall(STATEMENT)) - {call for call, _, _ in calls()}, set())
+
+    def test_every_field_is_tested(self):
+        """`never-seven` has every field, and for every field another number is shown to be given."""
+        theorems = read("crates", "theory", "specs", "Theorems", "Numbers.antt").decode()
+        self.assertIn("\npub never-seven : NeverGiven 7\n", theorems)
+        self.assertEqual(set(re.findall(r"λ never\. never \.([\w-]+)", theorems)), {name for _, fields in groups() for name in fields})
 
 
 if __name__ == "__main__":

@@ -117,7 +117,7 @@ byteRefusal v = firstMet ((6, isNone (wordNamed v)) ∷ [])
 unfoldable pub startRefusal : ℕ → ℕ → ℕ
 startRefusal n room = firstMet ((2, sizeOutside n) ∷ (8, tooShort room (nextSheet (blankRing n))) ∷ [])
 
--- "A step checks 9, 5, 6, 7, 8", without 7 now
+-- "A step checks 9, 5, 6, 7, 8" (7: Note 3)
 unfoldable pub stepRefusal : Ring → Report → ℕ → ℕ
 stepRefusal ring r room =
     firstMet ((9, badRecord ring) ∷ (reportConditions (ring .n) r ++ ((8, tooShort room (nextSheet (told ring r))) ∷ [])))
@@ -149,7 +149,7 @@ reportsRefusal n [] vs = 0
 reportsRefusal n (c ∷ cs) [] = 0
 reportsRefusal n (c ∷ cs) (v ∷ vs) = let rest = reportsRefusal n cs vs in orElse (reportRefusal n c v) rest
 
--- "A file is checked 1, 2, 3, 4, then its reports first to last, each 5, 6, 7.", without 7 now
+-- "A file is checked 1, 2, 3, 4, then its reports first to last, each 5, 6, 7." (7: Note 3)
 unfoldable pub fileRefusal : List ℕ → ℕ
 fileRefusal f =
     let reports = reportsRefusal (fileSize f) (fileCodes f) (fileWords f) in

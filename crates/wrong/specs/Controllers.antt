@@ -7,8 +7,10 @@ use Prim.Native.Nat.{ℕ, _-_}
 use native.Mathlib.Omega.{arith}
 use lib.Dec.{eqb}
 use lib.ListN.{length, take, drop, set, replicate}
-use Rattle.model.specs.declared.Part.the-variants.{Generator, BusBreaker}
-use Rattle.model.specs.declared.Word.the-variants.{Fit, StuckOff, StuckOpen}
+use Rattle.model.specs.declared.Part.{Part}
+use Rattle.model.specs.declared.Part.the-variants.{Generator, GeneratorBreaker, BusBreaker}
+use Rattle.model.specs.declared.Word.{Word}
+use Rattle.model.specs.declared.Word.the-variants.{Fit, StuckOff, StuckOpen, StuckClosed}
 use Rattle.model.specs.declared.Report.{Report}
 use Rattle.model.specs.declared.Scan.{Scan}
 use Rattle.model.specs.declared.Ring.{Ring}
@@ -179,7 +181,7 @@ use Rattle.wrong.specs.Designs.{
   writing,
   closingsFirst,
 }
-use Rattle.model.specs.Values.{firstCode, partCode, samePart, wordNumber}
+use Rattle.model.specs.Values.{partCode, samePart}
 use Rattle.model.specs.Priority.{others, sources, pathBusBreakers, pathBreakers, pathParts, highRises, pathsFrom, paths}
 use Rattle.model.specs.Refusals.{
   firstMet,
@@ -441,9 +443,17 @@ asksFirstStep =
     scanSpoilt (λ ring s buffer reply.
     cond (tooShort (length buffer) (nextSheet (toldAll ring (take 1 (scanReports s))))) (refusedReply 8 ring buffer) reply)
 
--- a generator's return
-unfoldable pub isReturn : Report → Bool
-isReturn r = eqb (firstCode (r .part)) 0 && eqb (wordNumber (r .word)) 0
+-- word 0 for a generator
+unfoldable pub returnOf : Part → Word → Bool
+returnOf (Generator k) Fit = true
+returnOf (Generator k) StuckOff = false
+returnOf (Generator k) StuckOpen = false
+returnOf (Generator k) StuckClosed = false
+returnOf (GeneratorBreaker k) w = false
+returnOf (BusBreaker k) w = false
+
+abbrev isReturn : Report → Bool
+isReturn r = returnOf (r .part) (r .word)
 
 -- gives 7 to a generator's return, in a step or in a scan
 unfoldable pub refusesReturns : Controller
@@ -705,8 +715,7 @@ record Computed : Type 0 where
   -- the order of the operations is what is wrong with the fourth and fifth controller of `wrongMoments`: in the sheet's own order
   -- they clash nowhere
   in-sheet-order : allOf clashesNowhere (0 ∷ 1 ∷ 2 ∷ []) ≡ true
-  -- the return is what is wrong with the controller of the last row of `wrongReturns`: before it nothing clashes, and every bus is fed as
-  -- shown
+  -- the clash of the last row of `wrongReturns` comes with the return: while G1 is off nothing clashes, and every bus is fed as shown
   quiet-while-off : allOf quietWhileOff
       (claim.clash-in-first ∷ claim.clash-in-second ∷ claim.clash-between ∷ claim.energized ∷ claim.de-energized ∷ []) ≡ true
   -- the exception is needed, n = 3 after the start, BB1 stuck closed: before the first operation, at an excepted moment, B1 is fed
@@ -740,7 +749,7 @@ unfolding below keep first anyOf allOf partCode samePart parts healthOfKind next
     wrongs2 refuted2 clashesNowhere countAbove sheetRefusal toldAll firstRefusal scanRefusal scanReply callNumber designScan scanSpoilt
     scanOf countedAs calling scanning scanRefusing scanServing scanWrites scanTelling scanServingBy lastOf backwards beforeLast
     takesLastWord sendsLastSheet takesWordsBackwards readsPastCount servesScans refuses64 refusesByLast asksFirstStep wrongScanRefusals
-    wrongScans goodFront servesBeforeBad isReturn refusesReturns refusesReturnsInScans keepsOff keepsOffInScans passesReturned leavesOrders
+    wrongScans goodFront servesBeforeBad returnOf refusesReturns refusesReturnsInScans keepsOff keepsOffInScans passesReturned leavesOrders
     wrongReturns quietWhileOff
 computed = record {
   refuted-3 = refl;

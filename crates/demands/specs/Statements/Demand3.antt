@@ -1,7 +1,7 @@
 -- The user's third demand as ONE statement about a controller, a served start and any list of calls after it.
 -- It knows nothing of how a controller comes to its answers. The plant is fed n, the words of served reports, whether each
 -- call was served, and the bytes of the lent buffers after served calls; never a record.
--- Document 01, "The plant beside the list", and document 02, Note 2. A stroke is an operation here, a halt an interruption, a wave a
+-- Document 01, "The plant beside the list", and document 02, Notes 2 and 3. A stroke is an operation here, a halt an interruption, a wave a
 -- phase.
 use mathlib.Core.Path.{_≡_}
 use mathlib.Core.Bool.{Bool, true, false, not, _&&_, cond}
@@ -248,7 +248,8 @@ shownAt W b = getD (W .shown) b (record { choice = choice.Dark }) .choice
 
 -- "Whenever a call's orders have ended ..": of one bus
 pub record BusShown (n : ℕ) (W : World) (b : ℕ) : Type 0 where
-  -- "a bus stands shown as dark exactly when no fit generator has a run of breakers to it, none stuck open"
+  -- "a bus stands shown as dark exactly when no fit generator has a run of breakers to it, none stuck open"; "judged by the generators
+  -- fit after the latest word": that of the plant when the orders have ended
   pub dark-unreached : shownAt W b ≡ choice.Dark → (g : ℕ) → Reaches n (W .plant .health) b g → ⊥
   pub unreached-dark : ((g : ℕ) → Reaches n (W .plant .health) b g → ⊥) → shownAt W b ≡ choice.Dark
   -- "a bus shown lit is fed by the generator named and no other"
@@ -301,7 +302,7 @@ pub data StartMeets (n room : ℕ) : ℕ → Type 0 where
   too-large : largest < n → StartMeets n room 2
   too-short : smallest ≤ n → n ≤ largest → room < sheetFor n freshPlant → StartMeets n room 8
 
--- "each 5, 6, 7", without 7 now: the refusal that meets a report alone
+-- "each 5, 6, 7" (7: Note 3): the refusal that meets a report alone
 pub data Bad (n : ℕ) (r : Report) : ℕ → Type 0 where
   no-part : (InRing n (r .part) → ⊥) → Bad n r 5
   no-word : {k : ℕ} → InRing n (r .part) → wordRefusal (r .part) (r .word) ≡ suc k → Bad n r (suc k)
@@ -321,7 +322,7 @@ pub data AllGood (n : ℕ) : List Report → Type 0 where
   no-reports : AllGood n []
   good-and : {r : Report} {rs : List Report} → Good n r → AllGood n rs → AllGood n (r ∷ rs)
 
--- "A step checks 9, 5, 6, 7, 8", without 7 now; "11 for a count above 64, after 9 and before the reports; 8 is checked last, for the scan's own
+-- "A step checks 9, 5, 6, 7, 8" (7: Note 3); "11 for a count above 64, after 9 and before the reports; 8 is checked last, for the scan's own
 -- sheet": the refusal that meets a call of the list; 9 meets none
 pub data Meets (n : ℕ) (P : PlantState) (call : Call) : ℕ → Type 0 where
   too-many : 64 < count call → Meets n P call 11

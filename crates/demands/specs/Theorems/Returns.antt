@@ -1,5 +1,5 @@
--- Document 02, Note 3: a generator that returns. Of every controller that meets demand 3: nothing starts or closes before the sheet says so,
--- and a dark bus is judged by the health after the latest word. Of ours: a word that repeats the present health changes nothing, and a part
+-- Document 02, Note 3: a generator that returns. Of every controller that meets demand 3: nothing starts or closes but by its own operation,
+-- and a dark bus is judged by the health after the latest word. Of ours: words that repeat the present health change nothing, and a part
 -- that fails and returns leaves the very record and the choices from before.
 use mathlib.Core.Path.{_≡_, refl, sym, _∙_, ap}
 use mathlib.Core.Bool.{Bool, true, false, _&&_, cond}

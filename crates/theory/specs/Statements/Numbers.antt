@@ -1,5 +1,6 @@
--- Document 02, Note 3: "refusal 7 is given to no input any more." Every call that answers a refusal is named, with the answer that its
--- contract promises; `codes::code_of` and `words::number_of` answer none, and `rings::refused` the number that it is handed.
+-- Document 02, Note 3: "refusal 7 is given to no input any more." Every call that finds a refusal is named, with the answer that its
+-- contract promises, and every text that has a definition. `rings::refused` and `heads::refused_text` pass on a number that they are
+-- handed; `ringplant` prints that of `plant::feeds`, and `ringtrace` that of `files::check_file`.
 use mathlib.Core.Logic.{_≢_}
 use mathlib.Core.List.{List}
 use Prim.Native.Nat.{ℕ}
@@ -19,7 +20,7 @@ use Rattle.model.specs.Text.{refusedText, printedRun}
 use Rattle.model.specs.CutText.{printedCutSets}
 use Rattle.model.specs.ScanText.{scanText}
 
--- for every argument, the number of the answer is not k
+-- for every argument, the number of the answer is not k, and the text is not its refusal
 pub record NeverGiven (k : ℕ) : Type 0 where
   -- files::check_file, latest::ring_after
   pub check-file : (file : List ℕ) → fileValues (fileAnswer file) .0 ≢ k
@@ -41,7 +42,7 @@ pub record NeverGiven (k : ℕ) : Type 0 where
   pub write : (bytes buffer : List ℕ) → outcomeNumber (outcomeOf (sheetRefusal (length buffer) bytes)) ≢ k
   -- cutsets::list
   pub list : (ring : Ring) (bus : ℕ) (buffer : List ℕ) → outcomeNumber (cutSetsReply ring bus buffer .answer .outcome) ≢ k
-  -- run::fill, piece by piece, and ringctl; ringcuts; calls::scan_text and ringscan
+  -- run::fill and cursor::next_line, piece by piece, and ringctl; ringcuts; calls::scan_text and ringscan
   pub printed-run : (file : List ℕ) → printedRun file ≢ refusedText k
   pub printed-cut-sets : (file : List ℕ) → printedCutSets file ≢ refusedText k
   pub scan-text : (i : ℕ) (ring : Ring) (s : Scan) → scanText i ring s ≢ refusedText k

@@ -1,8 +1,8 @@
--- Document 02, Note 3: no call answers 7, and document 01's example of it is served.
+-- Document 02, Note 3: no call finds 7, no text prints it, and document 01's example of it is served.
 use mathlib.Core.Path.{_≡_, refl, ap}
 use mathlib.Core.Bool.{Bool, true, false, not, _&&_, cond}
 use mathlib.Core.Logic.{_≢_, _⊎_, inl, inr}
-use mathlib.Core.List.{List, [], _∷_, _++_, map, append-assoc, append-nil}
+use mathlib.Core.List.{List, [], _∷_, _++_, map, flatMap, append-assoc, append-nil}
 use mathlib.Core.Option.{Option, none, some}
 use Prim.Native.Char.{code}
 use Prim.Native.Nat.{ℕ, zero, suc, _+_, _≤_, _<_, _/_, _%_}
@@ -11,7 +11,9 @@ use lib.Dec.{eqb, ltb}
 use lib.ListN.{length, getD, drop, length-append}
 use borrow.Author.Tests.{ltb-true, ltb-false, eq-eqb}
 use Rattle.model.specs.declared.Part.{Part}
+use Rattle.model.specs.declared.Part.the-variants.{Generator}
 use Rattle.model.specs.declared.Word.{Word}
+use Rattle.model.specs.declared.Word.the-variants.{Fit, StuckOpen}
 use Rattle.model.specs.declared.Report.{Report}
 use Rattle.model.specs.declared.Health.{Health}
 use Rattle.model.specs.declared.Commands.{Commands}
@@ -19,10 +21,28 @@ use Rattle.model.specs.declared.Ring.{Ring}
 use Rattle.model.specs.declared.Scan.{Scan}
 use Rattle.model.specs.declared.ReportAnswer.the-variants.{Missing}
 use Rattle.model.specs.declared.FileAnswer.the-variants.{Served}
-use Rattle.model.specs.Lists.{below, first, anyOf}
-use Rattle.model.specs.Values.{partCode, outcomeNumber, outcomeOf, partValues, wordValues, reportValues, fileValues}
-use Rattle.model.specs.Plant.{parts}
-use Rattle.model.specs.Reports.{fileSize, fileCount, fileCodes, fileWords, partNamed, wordNamed, healthOf, blankRing, told}
+use Rattle.model.specs.Lists.{below, keep, first, anyOf, allOf}
+use Rattle.model.specs.Values.{samePart, partCode, outcomeNumber, outcomeOf, partValues, wordValues, reportValues, fileValues}
+use Rattle.model.specs.Plant.{parts, healthOfKind, next, up, arc, connected}
+use Rattle.model.specs.Priority.{others, sources, pathBusBreakers, pathBreakers, pathParts, highRises, pathsFrom, paths}
+use Rattle.model.specs.Choosing.{onPaths, usable, countedClosed, isolated, permitted, choose, addPath, chosen, commands}
+use Rattle.model.specs.Reports.{
+  fileSize,
+  fileCount,
+  fileCodes,
+  fileWords,
+  partNamed,
+  wordNamed,
+  healthOf,
+  commandsOf,
+  healthPlaces,
+  commandPlaces,
+  places,
+  blankRing,
+  told,
+  planned,
+  withPlan,
+}
 use Rattle.model.specs.Refusals.{
   firstMet,
   orElse,
@@ -31,6 +51,8 @@ use Rattle.model.specs.Refusals.{
   wordOfOtherKind,
   tooShort,
   healthOutside,
+  activeAbove,
+  unplanned,
   badRecord,
   busOutside,
   countAbove,
@@ -315,12 +337,26 @@ unfolding fileAnswer fileRefusal firstMet sizeOutside reportsRefusal reportRefus
     partNamed partCode parts below first wordNamed
 example-served = refl
 
--- every other number of document 01's table is given
+-- a started ring of three
+started : Ring
+started = withPlan (blankRing 3)
+
+-- a report that 5 meets, and one that 6 meets
+abbrev no-part : Report
+no-part = record { part = Generator 4; word = Fit }
+
+abbrev no-word : Report
+no-word = record { part = Generator 1; word = StuckOpen }
+
+-- every other number of the table is given: document 01's examples, and of document 02 bus 0 and a count of 65
 pub others-given : (NeverGiven 1 → ⊥) × (NeverGiven 2 → ⊥) × (NeverGiven 3 → ⊥) × (NeverGiven 4 → ⊥) × (NeverGiven 5 → ⊥)
-    × (NeverGiven 6 → ⊥) × (NeverGiven 8 → ⊥) × (NeverGiven 9 → ⊥)
+    × (NeverGiven 6 → ⊥) × (NeverGiven 8 → ⊥) × (NeverGiven 9 → ⊥) × (NeverGiven 10 → ⊥) × (NeverGiven 11 → ⊥)
 unfolding fileAnswer fileRefusal firstMet sizeOutside reportsRefusal reportRefusal reportAnswer reportOf reportConditions notOfRing wordOfOtherKind
     partNamed partCode parts below first wordNamed outcomeOf sheetRefusal tooShort cutSetsReply cutSetsRefusal badRecord anyOf blankRing
-    refusedCutSets
+    refusedCutSets started withPlan planned commands onPaths chosen addPath choose permitted isolated countedClosed usable paths pathsFrom
+    highRises pathParts pathBreakers pathBusBreakers sources others flatMap connected arc up next samePart allOf keep places healthOf
+    commandsOf healthPlaces commandPlaces healthOutside healthOfKind activeAbove unplanned busOutside scanReply scanRefusal countAbove
+    refusedReply refusedAnswer
 others-given = (
   λ never. never .check-file (3 ∷ 0 ∷ []) refl,
   λ never. never .check-file (2 ∷ 0 ∷ 0 ∷ []) refl,
@@ -330,4 +366,29 @@ others-given = (
   λ never. never .check-file (3 ∷ 1 ∷ 0 ∷ 64 ∷ 1 ∷ []) refl,
   λ never. never .write (0 ∷ 0 ∷ []) (0 ∷ []) refl,
   λ never. never .list (blankRing 2) 1 [] refl,
+  λ never. never .list started 0 [] refl,
+  λ never. never .scan started (record { reports = []; count = 65 }) [] refl,
+)
+
+-- every other call and text gives one of them
+pub each-gives : (NeverGiven 1 → ⊥) × (NeverGiven 5 → ⊥) × (NeverGiven 6 → ⊥) × (NeverGiven 5 → ⊥) × (NeverGiven 6 → ⊥)
+    × (NeverGiven 2 → ⊥) × (NeverGiven 2 → ⊥) × (NeverGiven 9 → ⊥) × (NeverGiven 5 → ⊥) × (NeverGiven 1 → ⊥) × (NeverGiven 1 → ⊥)
+    × (NeverGiven 9 → ⊥)
+unfolding fileRefusal firstMet sizeOutside reportRefusal reportAnswer reportOf reportConditions notOfRing wordOfOtherKind partAnswer
+    wordAnswer partNamed partCode parts below first wordNamed outcomeOf reportAt feedsAnswer feedsRefusal startReply startRefusal stepReply
+    stepRefusal refusedReply refusedAnswer badRecord anyOf blankRing firstRefusal printedRun runLines refusedLines joined printedCutSets
+    scanText scanRefusal
+each-gives = (
+  λ never. never .ring-after (3 ∷ 0 ∷ []) refl,
+  λ never. never .part-of 3 3 refl,
+  λ never. never .word-of 4 refl,
+  λ never. never .report-at 3 (3 ∷ []) (1 ∷ []) 0 refl,
+  λ never. never .check-report 3 no-word refl,
+  λ never. never .feeds 2 (blankRing 2 .health) (blankRing 2 .commands) refl,
+  λ never. never .start 2 [] refl,
+  λ never. never .step (blankRing 2) no-part [] refl,
+  λ never. never .check 3 (no-part ∷ []) refl,
+  λ never. never .printed-run (3 ∷ 0 ∷ []) (append-nil (refusedText 1)),
+  λ never. never .printed-cut-sets (3 ∷ 0 ∷ []) refl,
+  λ never. never .scan-text 1 (blankRing 2) (record { reports = []; count = 0 }) refl,
 )
