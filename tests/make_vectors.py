@@ -37,7 +37,7 @@ import ringsim as rs  # noqa: E402
 CRATES = os.path.join(HERE, "..", "crates")
 KINDS = (rs.GENERATOR, rs.GENERATOR_BREAKER, rs.BUS_BREAKER)
 
-# The rules that have landed: document 01's with Note 3 of document 02.
+# The rules that are built: document 01's with Note 3 of document 02. Notes 1 and 2 add calls, and have no switch.
 RULES = rs.Rules(note3=True)
 
 

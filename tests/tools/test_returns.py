@@ -19,8 +19,9 @@ RINGS = (3, 4, 5, 20)
 
 class Rules(unittest.TestCase):
 
-    def test_note_3_has_landed(self):
-        self.assertTrue(RULES.note3)
+    def test_the_rules_that_are_built(self):
+        """Note 3 and no later one; every question to the simulation is bound to them."""
+        self.assertEqual(RULES, ringsim.rules_named("notes=3"))
         self.assertEqual({part.keywords["rules"] for part in vars(sim).values()}, {RULES})
 
     def test_the_simulation_is_asked_under_the_rules_alone(self):
@@ -29,7 +30,7 @@ class Rules(unittest.TestCase):
         self.assertGreater(len(files), 10)
         for name in files:
             for node in ast.walk(ast.parse(read(name))):
-                self.assertNotIn(getattr(node, "attr", ""), ("BASE", "ALL_NOTES", "rules_named"), name)
+                self.assertNotIn(getattr(node, "attr", ""), ("BASE", "ALL_NOTES"), name)
                 if isinstance(node, ast.Call) and isinstance(node.func, ast.Attribute) and hasattr(sim, node.func.attr):
                     handed_on = node.args and getattr(node.args[-1], "id", "") == "rules"
                     self.assertTrue(handed_on or getattr(node.func.value, "id", "") not in ("rs", "ringsim", "compare"),
@@ -47,6 +48,7 @@ def answers_of(name):
 class Seven(unittest.TestCase):
 
     def test_no_stored_answer_is_7(self):
+        """What the programs are held to; that they give it is test_programs.py's, and the gate's."""
         refused = {text for _, text in stored_runs() if text.startswith(b"refused")}
         self.assertEqual(refused, {b"refused %d\n" % number for number in (1, 2, 3, 4, 5, 6)})
         self.assertEqual(answers_of("vectors_step"), {0, 2, 5, 6, 8, 9})
