@@ -6,11 +6,9 @@ use native.Mathlib.Omega.{arith}
 use lib.ListN.{length, replicate, length-append, length-map, length-replicate}
 use lib.Seq.{drop-length}
 use Rattle.model.specs.declared.Part.{Part}
-use Rattle.model.specs.declared.Commands.{Commands}
-use Rattle.model.specs.Sheet.{sheetOf, sheet, written}
-use Rattle.model.specs.Reports.{commandsOf}
+use Rattle.model.specs.Values.{partCode}
+use Rattle.model.specs.Sheet.{sheetOf, written}
 use Rattle.model.specs.Laws.Appended.{Appended, appended-written}
-use Rattle.phases.specs.Codes.{openingCodes, closingCodes}
 
 -- the sheet of the codes of both phases
 unfoldable pub layout : List ℕ → List ℕ → List ℕ
@@ -20,10 +18,9 @@ map-const : (n : ℕ) (xs : List Part) → map (λ p. n) xs ≡ replicate (lengt
 map-const n [] = refl
 map-const n (x ∷ xs) = ap (λ l. n ∷ l) (map-const n xs)
 
-pub sheet-layout : (n : ℕ) (old new : Commands)
-    → sheet n (commandsOf old) (commandsOf new) ≡ layout (openingCodes n old new) (closingCodes n old new)
-unfolding sheet sheetOf layout
-sheet-layout n old new = simp (map-append, map-const, length-map, append-assoc)
+pub sheet-layout : (xs ys : List Part) → sheetOf xs ys ≡ layout (map partCode xs) (map partCode ys)
+unfolding sheetOf layout
+sheet-layout xs ys = simp (map-append, map-const, length-map, append-assoc)
 
 pub layout-length : (xs ys : List ℕ) → length (layout xs ys) ≡ 2 + 2 * (length xs + length ys)
 unfolding layout

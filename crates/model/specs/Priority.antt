@@ -33,7 +33,8 @@ pathBusBreakers n p =
 unfoldable pub pathBreakers : ℕ → Path → List Part
 pathBreakers n p = generatorBreaker (p .source) ∷ map busBreaker (pathBusBreakers n p)
 
--- the parts of a path, outward from its generator
+-- "A way must now give its parts as a sequence: generator, generator breaker, then bus breakers from the generator's bus outward." (document
+-- 02, Note 4)
 unfoldable pub pathParts : ℕ → Path → List Part
 pathParts n p = generator (p .source) ∷ pathBreakers n p
 

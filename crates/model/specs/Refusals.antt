@@ -28,7 +28,6 @@ use Rattle.model.specs.Reports.{
   commandsOf,
   blankRing,
   told,
-  planned,
 }
 
 -- the number of the first refusal of a list whose condition is met, 0 where none is
@@ -93,7 +92,7 @@ countAbove k = ltb 64 k
 
 -- the sheet from a ring's standing commands to those that its health calls for
 unfoldable pub nextSheet : Ring → List ℕ
-nextSheet ring = sheet (ring .n) (commandsOf (ring .commands)) (planned ring)
+nextSheet ring = sheet (ring .n) (commandsOf (ring .commands)) (healthOf (ring .health))
 
 -- "each 5, 6, 7", of a report in a ring of n; "refusal 7 is given to no input any more" (document 02, Note 3)
 unfoldable pub reportConditions : ℕ → Report → List (ℕ × Bool)

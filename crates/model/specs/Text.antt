@@ -19,9 +19,9 @@ use Rattle.model.specs.declared.RunCursor.{RunCursor}
 use Rattle.model.specs.Lists.{below}
 use Rattle.model.specs.Values.{number, choiceSource, choiceLetter}
 use Rattle.model.specs.Plant.{largest}
-use Rattle.model.specs.Choosing.{choices}
+use Rattle.model.specs.Choosing.{plan, commands, choices}
 use Rattle.model.specs.Sheet.{opening, closing}
-use Rattle.model.specs.Reports.{fileSize, fileCount, fileCodes, fileWords, healthOf, commandsOf, blankRing, told, planned, withPlan}
+use Rattle.model.specs.Reports.{fileSize, fileCount, fileCodes, fileWords, healthOf, commandsOf, blankRing, told, withPlan}
 use Rattle.model.specs.Refusals.{fileRefusal}
 use Rattle.model.specs.Answers.{reportAt}
 
@@ -78,8 +78,9 @@ line i n cs xs ys =
 unfoldable pub transitionLine : ℕ → Ring → List ℕ
 transitionLine i ring =
     let n = ring .n in
+    let H = healthOf (ring .health) in
     let old = commandsOf (ring .commands) in
-    line i n (choices n (healthOf (ring .health))) (opening n old (planned ring)) (closing n old (planned ring))
+    line i n (choices n H) (opening n old (commands n H)) (closing n old (plan n H))
 
 -- "a header"
 unfoldable pub header : ℕ → ℕ → List ℕ

@@ -1,17 +1,17 @@
--- The part codes of each phase, collected kind by kind.
+-- The part codes of the opening phase, collected kind by kind, and the number of parts of the closing phase.
 use mathlib.Core.Path.{_≡_, refl, ap}
 use mathlib.Core.Bool.{Bool, true, false, not, _&&_, _||_, cond, Bool·beq}
 use mathlib.Core.List.{List, [], _∷_, _++_, map, map-append, map-map, append-assoc, append-nil}
 use Prim.Native.Nat.{ℕ, _+_, _≤_}
 use native.Mathlib.Numerals.{add-one}
 use native.Mathlib.Omega.{arith}
-use lib.ListN.{getD, set}
+use lib.ListN.{length, getD, set, length-append, length-map}
 use Rattle.model.specs.declared.Part.{Part}
 use Rattle.model.specs.declared.Commands.{Commands}
 use Rattle.model.specs.Lists.{below, keep, anyOf, _∈_}
 use Rattle.model.specs.Values.{partCode}
 use Rattle.model.specs.Plant.{largest, generator, generatorBreaker, busBreaker, parts}
-use Rattle.model.specs.Sheet.{opening, closing}
+use Rattle.model.specs.Sheet.{opening}
 use Rattle.model.specs.Reports.{commandsOf}
 use Rattle.model.specs.Laws.Tests.{contra, by-cond}
 use Rattle.model.specs.Laws.Lists.{below-in, below-lt, any-none, any-below, keep-append, keep-map, keep-none}
@@ -20,10 +20,6 @@ use Rattle.model.specs.Laws.Appended.{Appended, appended-none, appended-one, ap
 -- the codes of the opening phase
 abbrev pub openingCodes : ℕ → Commands → Commands → List ℕ
 openingCodes n old new = map partCode (opening n (commandsOf old) (commandsOf new))
-
--- the codes of the closing phase
-abbrev pub closingCodes : ℕ → Commands → Commands → List ℕ
-closingCodes n old new = map partCode (closing n (commandsOf old) (commandsOf new))
 
 -- the command at index i of a kind changes
 abbrev pub changes : List Bool → List Bool → ℕ → Bool
@@ -106,3 +102,29 @@ pub appended-kinds : (f : Part → Bool) (n : ℕ) {l l′ l″ l‴ : List ℕ}
     → Appended (codes (λ b. f (generator b)) 0 n) l i l′ j → Appended (codes (λ b. f (generatorBreaker b)) 32 n) l′ j l″ k
     → Appended (codes (λ b. f (busBreaker b)) 64 n) l″ k l‴ m → Appended (map partCode (keep f (parts n))) l i l‴ m
 appended-kinds f n a b c = rw codes-parts (appended-more (appended-more a b) c)
+
+-- ---- how many close
+
+-- one index more: its part is passed over, or counted
+module _ (test : ℕ → Bool) (i : ℕ) where
+  counted-more : keep test (below (i + 1)) ≡ keep test (below i) ++ cond (test i) (i ∷ []) []
+  unfolding below keep
+  counted-more = rw (add-one, keep-append)
+
+  module _ (c : ℕ) {k : ℕ} (e : k ≡ c + length (keep test (below i))) where
+    pub count-miss : test i ≡ false → k ≡ c + length (keep test (below (i + 1)))
+    count-miss t = rw (counted-more, t, append-nil) e
+
+    pub count-hit : test i ≡ true → k + 1 ≡ c + length (keep test (below (i + 1)))
+    count-hit t = rw (counted-more, t, length-append (keep test (below i)) (i ∷ [])) (omega arith)
+
+-- where none passes the test, none is counted
+pub count-none : (test : ℕ → Bool) (n c : ℕ) → ((i : ℕ) → i ∈ below n → test i ≡ false) → c ≡ c + length (keep test (below n))
+count-none test n c h = rw (keep-none test (below n) h) (omega arith)
+
+-- the three kinds together
+pub counted-kinds : (f : Part → Bool) (n : ℕ) {i j k : ℕ} → i ≡ 0 + length (keep (λ b. f (generator b)) (below n))
+    → j ≡ i + length (keep (λ b. f (generatorBreaker b)) (below n)) → k ≡ j + length (keep (λ b. f (busBreaker b)) (below n))
+    → k ≡ length (keep f (parts n))
+unfolding parts
+counted-kinds f n a b c = simp (keep-append, keep-map, length-append, length-map) (omega arith)

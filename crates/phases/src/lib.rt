@@ -1,12 +1,16 @@
-// Both phases (document 01: waves): the codes of the parts whose commands change, in rising order. Parts are indices from 0 here.
+// The opening phase (document 01: first wave): the codes of the parts whose commands change to off or open, in rising order; and how many
+// parts each phase has. Parts are indices from 0 here.
 ghost use mathlib.Core.Path.{_≡_};
 ghost use Prim.Native.Nat.{_+_, _≤_};
-ghost use Rattle.model.specs.Lists.{below, anyOf};
+ghost use lib.ListN.{length};
+ghost use Rattle.model.specs.Lists.{below, keep, anyOf};
+ghost use Rattle.model.specs.Reports.{commandsOf};
 ghost use Rattle.model.specs.Laws.Appended.{Appended};
-ghost use Rattle.phases.specs.Codes.{changes, opens, closes, codes, openingCodes, closingCodes};
+ghost use Rattle.model.specs.Laws.Sheet.{closingByCode};
+ghost use Rattle.phases.specs.Codes.{changes, opens, closes, codes, openingCodes};
 use model::Commands;
 
-// How many codes of each phase are held.
+// How many parts each phase has.
 pub struct Counts {
     pub opening: usize,
     pub closing: usize,
@@ -24,14 +28,13 @@ fn differ(old: &[bool; 20], new: &[bool; 20]) -> bool
     any
 }
 
-// Appends the codes of one kind of part to their phases: `base` is the code of the kind's first part.
+// Appends the codes of one kind of part that open, and counts those that close: `base` is the code of the kind's first part.
 fn collect(
     n: usize,
     old: &[bool; 20],
     new: &[bool; 20],
     base: u8,
     opening: &mut [u8; 60],
-    closing: &mut [u8; 60],
     counts: Counts,
 ) -> Counts
     requires size { ⌜ n ≤ 20 ⌝ }
@@ -42,9 +45,8 @@ fn collect(
         Appended (codes (opens (now (old .entry)) (now (new .entry))) base n)
         (now (opening .entry)) (counts .opening) (now (opening .exit)) (r .opening)
         ⌝ }
-    ensures closing_phase { λ r. ⌜
-        Appended (codes (closes (now (old .entry)) (now (new .entry))) base n)
-        (now (closing .entry)) (counts .closing) (now (closing .exit)) (r .closing)
+    ensures closing_count { λ r. ⌜
+        r .closing ≡ counts .closing + length (keep (closes (now (old .entry)) (now (new .entry))) (below n))
         ⌝ }
     ensures most { λ r. ⌜ (r .opening ≤ counts .opening + n) × (r .closing ≤ counts .closing + n) ⌝ }
 {
@@ -56,12 +58,10 @@ fn collect(
     for i in 0..n {
         let command = new[i];
         if old[i] != command {
-            let code = base + i as u8;
             if command {
-                closing[closed] = code;
                 closed += 1;
             } else {
-                opening[opened] = code;
+                opening[opened] = base + i as u8;
                 opened += 1;
             }
         }
@@ -72,38 +72,23 @@ fn collect(
     }
 }
 
-// The codes of both phases, kind by kind.
-pub fn both(
-    n: usize,
-    old: Commands,
-    new: Commands,
-    opening: &mut [u8; 60],
-    closing: &mut [u8; 60],
-) -> Counts
+// The codes of the opening phase, kind by kind, and how many parts each phase has.
+pub fn opening(n: usize, old: Commands, new: Commands, opening: &mut [u8; 60]) -> Counts
     requires { ⌜ n ≤ 20 ⌝ }
     ensures opening_phase { λ r. ⌜ Appended (openingCodes n old new) (now (opening .entry)) 0 (now (opening .exit)) (r .opening) ⌝ }
-    ensures closing_phase { λ r. ⌜ Appended (closingCodes n old new) (now (closing .entry)) 0 (now (closing .exit)) (r .closing) ⌝ }
+    ensures closing_count { λ r. ⌜ r .closing ≡ length (closingByCode n (commandsOf old) (commandsOf new)) ⌝ }
 {
     let none = Counts {
         opening: 0,
         closing: 0,
     };
-    let generators = collect(
-        n,
-        &old.generators,
-        &new.generators,
-        0,
-        opening,
-        closing,
-        none,
-    );
+    let generators = collect(n, &old.generators, &new.generators, 0, opening, none);
     let breakers = collect(
         n,
         &old.generator_breakers,
         &new.generator_breakers,
         32,
         opening,
-        closing,
         generators,
     );
     collect(
@@ -112,7 +97,6 @@ pub fn both(
         &new.bus_breakers,
         64,
         opening,
-        closing,
         breakers,
     )
 }

@@ -20,7 +20,7 @@ use Rattle.model.specs.declared.Commands.{Commands}
 use Rattle.model.specs.Lists.{first, anyOf, _∈_}
 use Rattle.model.specs.Values.{samePart}
 use Rattle.model.specs.Plant.{PartHealth, largest, generator, generatorBreaker, busBreaker}
-use Rattle.model.specs.Priority.{Path, pathParts, paths}
+use Rattle.model.specs.Priority.{Path, pathBusBreakers, pathParts, paths}
 use Rattle.model.specs.Choosing.{onPaths, countedClosed, permitted, choose, addPath, chosen, plan, commands, choiceOf, choices}
 use Rattle.model.specs.Reports.{places, healthOf, commandPlaces}
 use Rattle.model.specs.Laws.Tests.{iff, dec, dec-lt, below-other, below-last}
@@ -30,7 +30,6 @@ use Rattle.theory.specs.Theorems.Connected.{connected-ext}
 use Rattle.theory.specs.Proofs.Paths.{
   Ends,
   path-at,
-  path-in,
   source-on,
   breaker-on,
   line-on,
@@ -47,7 +46,7 @@ use Rattle.paths.specs.declared.Found.{Found}
 use Rattle.paths.specs.declared.Found.the-variants as found
 use Rattle.sources.specs.Sources.{mayFeed}
 use Rattle.walks.specs.Arrays.{at, setAll, set-all-places, both}
-use Rattle.walks.specs.Walk.{outward, outward-at, outward-in, closedBy, reach, reach-at, reach-connected}
+use Rattle.walks.specs.Walk.{outward, outward-path, closedBy, reach, reach-at, reach-connected}
 use Rattle.paths.specs.Search.{spanOf, passesBy, pathFound}
 use Rattle.paths.specs.Owner.{owner, pathSteps, passes, ends-in, owner-more, walk-choice}
 
@@ -146,14 +145,12 @@ bus-breaker-more n ws w v h = on-more n ws w (busBreaker v) (anyOf (eqb v) (path
   where
     to : anyOf (eqb v) (pathLine n w) ≡ true → busBreaker v ∈ pathParts n w
     to e =
-        let t = any-at (eqb v) (pathLine n w) e in
-        let u = outward-at n (t .0) (w .rising) (w .source) (w .bus) (h .source) (h .bus) (t .1) in
-        rw (eqb-true v (t .0) (t .2)) (line-on n w (path-in (t .0) h (u .0) (u .1)))
+        let t = any-at (eqb v) (pathBusBreakers n w) (rw (outward-path n w h) at e) in
+        rw (eqb-true v (t .0) (t .2)) (line-on n w (t .1))
 
     from : busBreaker v ∈ pathParts n w → anyOf (eqb v) (pathLine n w) ≡ true
     from m =
-        let t = path-at v h (bus-breaker-on n w v m) in
-        any-in (eqb v) (outward-in n v (w .rising) (w .source) (w .bus) (h .source) (h .bus) (t .0) (t .1)) (eq-eqb v v refl)
+        any-in (eqb v) (rw (outward-path n w h) (bus-breaker-on n w v m)) (eq-eqb v v refl)
 
 -- ---- serving a bus
 
@@ -186,7 +183,7 @@ module _ (n : ℕ) (H : PartHealth) (b : ℕ) (hb : b < n) where
     unfolding served commandPlaces
     lines =
         set-all-places (λ i. onPaths n (chosen n H b) (busBreaker i)) true (pathLine n w)
-        (λ i m. omega (arith, outward-at n i (w .rising) (w .source) (w .bus) (ends .0 .source) (ends .0 .bus) m .0))
+        (λ i m. omega (arith, path-at i (ends .0) (rw (outward-path n w (ends .0)) at m) .0))
         ∙ places-ext _ _ (λ v l. bus-breaker-more n (chosen n H b) w v (ends .0))
 
     commanded : (l : List Bool) → l ≡ places (λ i. onPaths n (w ∷ chosen n H b) (busBreaker i))

@@ -4,6 +4,7 @@ pub mod Completeness
 pub mod Feeds
 pub mod Interruption
 pub mod Locality
+pub mod Closing
 pub mod Priorities
 pub mod Settled
 pub mod CutSets

@@ -3,13 +3,14 @@
 use mathlib.Core.Path.{_≡_, refl, sym, _∙_}
 use mathlib.Core.Bool.{Bool, true, false, not, _&&_, _||_, cond}
 use mathlib.Core.Logic.{_⊎_, inl, inr, _≢_}
-use mathlib.Core.List.{List, [], _∷_, List·Memᴰ·head, List·Memᴰ·tail, List·Memᴰ·not-nil, List·Memᴰ·cases-cons}
+use mathlib.Core.List.{List, [], _∷_, _++_, reverse, reverse-append, List·Memᴰ·head, List·Memᴰ·tail, List·Memᴰ·not-nil, List·Memᴰ·cases-cons}
 use Prim.Native.Nat.{ℕ, zero, suc, _+_, _-_, _≤_, _<_}
 use native.Mathlib.Omega.{arith}
 use lib.Dec.{eqb}
 use lib.ListN.{getD, set}
 use borrow.Author.Tests.{eqb-true, eq-eqb, ne-eqb, not-true}
 use Rattle.model.specs.Lists.{anyOf, _∈_}
+use Rattle.model.specs.Priority.{Path, pathBusBreakers}
 use Rattle.model.specs.Plant.{stuckOpen, stuckClosed, next, up, arc, Leads, stay, rise, fall, connected}
 use Rattle.model.specs.Laws.Tests.{not-of, and-left, and-right, and-intro, or-cases, or-left, or-right, iff, dec, dec-eq}
 use Rattle.model.specs.Laws.Lists.{any-at, any-in}
@@ -24,10 +25,8 @@ use Rattle.theory.specs.Proofs.Geometry.{
   up-lt,
   up-next,
   up-next-right,
-  up-inj,
-  arc-at,
-  arc-in,
 }
+use Rattle.theory.specs.Proofs.Paths.{lower, upper, Ends}
 use Rattle.theory.specs.Theorems.Connected.{Arc, leads-arcs, connected-leads, leads-connected}
 use Rattle.walks.specs.Arrays.{setAll}
 
@@ -197,58 +196,41 @@ pub bus-lt : (n : ℕ) (r : Bool) (k : ℕ) → k < n → busBeside n r k < n
 bus-lt n true k hk = next-lt n k hk
 bus-lt n false k hk = next-previous n k hk .0
 
--- the breakers met outward on a path of m steps are those of its arc
-module _ (n v : ℕ) where
+-- ---- the breakers met outward from a path's generator are those of the path, in its sequence
+
+module _ (n : ℕ) where
   outward-rising : (m k : ℕ) → outward n true k m ≡ arc n k m
   unfolding outward arc
   outward-rising zero k = refl
   outward-rising (suc m) k = rw (outward-rising m (next n k))
 
-  module _ (e : ℕ) (he : e < n) where
-    nearer-falling : (m k : ℕ) → k < n → up n e k ≡ suc m → up n e (previous n k) ≡ m
-    nearer-falling m k hk z = omega (arith, up-previous n e k he hk (λ q. omega (arith, rw (← q) at z, up-refl n e he)))
+  -- the last breaker of an arc of one step more, at bus p
+  arc-last : (m a p : ℕ) → a < n → p < n → up n a p ≡ m → arc n a (suc m) ≡ arc n a m ++ (p ∷ [])
+  unfolding arc
+  arc-last zero a p ha hp z = rw (up-zero n a p ha hp z)
+  arc-last (suc m) a p ha hp z =
+      let ne : a ≢ p = λ q. omega (arith, rw (← q) at z, up-refl n a ha) in
+      rw (arc-last m (next n a) p (next-lt n a ha) hp (omega (arith, up-next n a p ha hp ne)))
 
-    falling-at : (m k : ℕ) → k < n → up n e k ≡ m → v ∈ outward n false k m → (v < n) × (up n e v < m)
-    unfolding outward
-    falling-at zero k hk z i = absurd (List·Memᴰ·not-nil i)
-    falling-at (suc m) k hk z i = go (falling-at m p hp) (nearer-falling m k hk z) (List·Memᴰ·cases-cons i)
-      where
-        p : ℕ
-        p = previous n k
+  -- falling to bus e
+  outward-falling : (e : ℕ) → e < n → (m k : ℕ) → k < n → up n e k ≡ m → outward n false k m ≡ reverse (arc n e m)
+  unfolding outward arc
+  outward-falling e he zero k hk z = refl
+  outward-falling e he (suc m) k hk z =
+      let p = previous n k in
+      let hp = next-previous n k hk .0 in
+      let near : up n e p ≡ m = omega (arith, up-previous n e k he hk (λ q. omega (arith, rw (← q) at z, up-refl n e he))) in
+      rw (arc-last m e p he hp near, reverse-append (arc n e m) (p ∷ []), outward-falling e he m p hp near)
 
-        hp : p < n
-        hp = next-previous n k hk .0
-
-        go : (up n e p ≡ m → v ∈ outward n false p m → (v < n) × (up n e v < m)) → up n e p ≡ m → (v ≡ p) ⊎ (v ∈ outward n false p m)
-            → (v < n) × (up n e v < suc m)
-        go f y (inl q) = rw q (hp, omega arith)
-        go f y (inr j) = let t = f y j in (t .0, omega (arith, t .1))
-
-    falling-in : (m k : ℕ) → k < n → up n e k ≡ m → v < n → up n e v < m → v ∈ outward n false k m
-    unfolding outward
-    falling-in zero k hk z hv l = absurd (omega arith)
-    falling-in (suc m) k hk z hv l = go (falling-in m p hp) (nearer-falling m k hk z) (dec-eq (up n e v) m)
-      where
-        p : ℕ
-        p = previous n k
-
-        hp : p < n
-        hp = next-previous n k hk .0
-
-        go : (up n e p ≡ m → v < n → up n e v < m → v ∈ outward n false p m) → up n e p ≡ m → (up n e v ≡ m) ⊎ (up n e v ≢ m)
-            → v ∈ p ∷ outward n false p m
-        go f y (inl q) = List·Memᴰ·head (up-inj n e v p he hv hp (q ∙ sym y))
-        go f y (inr q) = List·Memᴰ·tail (f y hv (omega arith))
-
-  pub outward-at : (r : Bool) (g b : ℕ) → g < n → b < n → v ∈ outward n r g (up n (cond r g b) (cond r b g))
-      → (v < n) × (up n (cond r g b) v < up n (cond r g b) (cond r b g))
-  outward-at true g b hg hb i = arc-at n g (up n g b) v hg (rw (outward-rising (up n g b) g) at i)
-  outward-at false g b hg hb i = falling-at b hb (up n b g) g hg refl i
-
-  pub outward-in : (r : Bool) (g b : ℕ) → g < n → b < n → v < n → up n (cond r g b) v < up n (cond r g b) (cond r b g)
-      → v ∈ outward n r g (up n (cond r g b) (cond r b g))
-  outward-in true g b hg hb hv l = rw (outward-rising (up n g b) g) (arc-in n g (up n g b) v hg hv l)
-  outward-in false g b hg hb hv l = falling-in b hb (up n b g) g hg refl hv l
+  pub outward-path : (w : Path) → Ends n w → outward n (w .rising) (w .source) (up n (lower w) (upper w)) ≡ pathBusBreakers n w
+  unfolding pathBusBreakers
+  outward-path w h = go (w .rising)
+    where
+      go : (r : Bool)
+          → outward n r (w .source) (up n (cond r (w .source) (w .bus)) (cond r (w .bus) (w .source)))
+          ≡ cond r (arc n (w .source) (up n (w .source) (w .bus))) (reverse (arc n (w .bus) (up n (w .bus) (w .source))))
+      go true = outward-rising (up n (w .source) (w .bus)) (w .source)
+      go false = outward-falling (w .bus) (h .bus) (up n (w .bus) (w .source)) (w .source) (h .source) refl
 
 module _ (n : ℕ) (C : ℕ → Bool) where
   beside-leads : (r : Bool) (k v : ℕ) → k < n → C (breakerBeside n r k) ≡ true → Leads n C (busBeside n r k) v → Leads n C k v

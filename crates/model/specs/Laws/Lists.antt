@@ -1,6 +1,6 @@
 -- Laws of the list searches: what is a member of each, and what each finds.
 use mathlib.Core.Path.{_≡_, refl, sym, _∙_, ap}
-use mathlib.Core.Bool.{Bool, true, false, _||_, or-false, or-assoc}
+use mathlib.Core.Bool.{Bool, true, false, _&&_, _||_, or-false, or-assoc}
 use mathlib.Core.Logic.{_⊎_, inl, inr, _≢_}
 use mathlib.Core.List.{
   List,
@@ -124,6 +124,11 @@ unfolding flatMap
 flat-append f [] ys = refl
 flat-append f (x ∷ xs) ys = rw (flat-append f xs ys) (sym (append-assoc (f x) (flatMap f xs) (flatMap f ys)))
 
+pub flat-ext : {A B : Type 0} (f g : A → List B) (xs : List A) → ((x : A) → x ∈ xs → f x ≡ g x) → flatMap f xs ≡ flatMap g xs
+unfolding flatMap
+flat-ext f g [] h = refl
+flat-ext f g (x ∷ xs) h = rw (h x (List·Memᴰ·head refl), flat-ext f g xs (λ y m. h y (List·Memᴰ·tail m)))
+
 -- one index more
 pub flat-below : {A : Type 0} (f : ℕ → List A) (k : ℕ) → flatMap f (below (suc k)) ≡ flatMap f (below k) ++ f k
 unfolding below flatMap
@@ -240,6 +245,23 @@ pub keep-none : {A : Type 0} (f : A → Bool) (xs : List A) → ((x : A) → x �
 unfolding keep
 keep-none f [] h = refl
 keep-none f (x ∷ xs) h = rw (h x (List·Memᴰ·head refl)) (keep-none f xs (λ y m. h y (List·Memᴰ·tail m)))
+
+pub keep-all : {A : Type 0} (f : A → Bool) (xs : List A) → ((x : A) → x ∈ xs → f x ≡ true) → keep f xs ≡ xs
+unfolding keep
+keep-all f [] h = refl
+keep-all f (x ∷ xs) h = rw (h x (List·Memᴰ·head refl), keep-all f xs (λ y m. h y (List·Memᴰ·tail m)))
+
+-- one test after another
+pub keep-twice : {A : Type 0} (f g : A → Bool) (xs : List A) → keep f (keep g xs) ≡ keep (λ x. g x && f x) xs
+unfolding keep
+keep-twice f g [] = refl
+keep-twice f g (x ∷ xs) = go (keep-twice f g xs) (dec (g x)) (dec (f x))
+  where
+    go : keep f (keep g xs) ≡ keep (λ y. g y && f y) xs → (g x ≡ true) ⊎ (g x ≡ false) → (f x ≡ true) ⊎ (f x ≡ false)
+        → keep f (keep g (x ∷ xs)) ≡ keep (λ y. g y && f y) (x ∷ xs)
+    go r (inl p) (inl q) = rw (p, q, r)
+    go r (inl p) (inr q) = rw (p, q, r)
+    go r (inr p) q = rw (p, r)
 
 pub keep-map : {A B : Type 0} (f : B → Bool) (g : A → B) (xs : List A) → keep f (map g xs) ≡ map g (keep (λ x. f (g x)) xs)
 unfolding keep

@@ -1,33 +1,56 @@
--- Laws of the command sheet's length.
+-- Laws of the command sheet: its length, and the parts of a list where each first comes.
 use mathlib.Core.Path.{_≡_, refl}
-use mathlib.Core.Bool.{Bool, true, false, not, _&&_}
-use mathlib.Core.List.{List}
-use Prim.Native.Nat.{ℕ, _+_, _*_, _≤_}
+use mathlib.Core.Bool.{true, false, not, _&&_}
+use mathlib.Core.Logic.{_⊎_, inl, inr}
+use mathlib.Core.List.{List, [], _∷_, List·Memᴰ·head, List·Memᴰ·tail, List·Memᴰ·cases-cons}
+use Prim.Native.Nat.{ℕ, _+_, _*_}
 use native.Mathlib.Omega.{arith}
 use lib.ListN.{length, length-append, length-map}
+use borrow.Author.Tests.{not-true}
 use Rattle.model.specs.declared.Part.{Part}
-use Rattle.model.specs.Lists.{keep}
-use Rattle.model.specs.Plant.{PartCommands, largest, parts}
-use Rattle.model.specs.Sheet.{opening, closing, sheetOf, sheet}
-use Rattle.model.specs.Laws.Tests.{contra}
-use Rattle.model.specs.Laws.Lists.{keep-apart}
-use Rattle.model.specs.Laws.Parts.{parts-length}
+use Rattle.model.specs.Lists.{keep, _∈_}
+use Rattle.model.specs.Values.{samePart}
+use Rattle.model.specs.Plant.{PartCommands, parts}
+use Rattle.model.specs.Sheet.{firstComings, sheetOf}
+use Rattle.model.specs.Laws.Tests.{contra, dec, not-of}
+use Rattle.model.specs.Laws.Lists.{keep-at, keep-in}
+use Rattle.model.specs.Laws.Parts.{same-eq, same-refl}
+use Rattle.model.specs.Laws.Once.{Once, none-once, one-more, keep-once}
 
 -- "With k orders it is 2 + 2k bytes"
 pub sheetOf-length : (xs ys : List Part) → length (sheetOf xs ys) ≡ 2 + 2 * (length xs + length ys)
 unfolding sheetOf
 sheetOf-length xs ys = simp (length-append, length-map) (omega arith)
 
--- a command changes in one direction only
-one-way : (was now : Bool) → was && not now ≡ true → not was && now ≡ false
-one-way true now e = refl
-one-way false now e = contra e refl
+-- the parts whose command changes to on or closed, in rising code: the closing phase as document 01 had it before Note 4
+unfoldable pub closingByCode : ℕ → PartCommands → PartCommands → List Part
+closingByCode n old new = keep (λ p. not (old p) && new p) (parts n)
 
--- ".. never more than 122"
-pub sheet-fits : (n : ℕ) (old new : PartCommands) → n ≤ largest → length (sheet n old new) ≤ 122
-unfolding sheet opening closing
-sheet-fits n old new h =
-    let f : Part → Bool = λ p. old p && not (new p) in
-    let g : Part → Bool = λ p. not (old p) && new p in
-    let k = keep-apart f g (λ p. one-way (old p) (new p)) (parts n) in
-    omega (arith, sheetOf-length (keep f (parts n)) (keep g (parts n)), parts-length n)
+-- ---- "a part only where it first comes": the same parts, each once
+
+pub comings-at : (ps : List Part) {q : Part} → q ∈ firstComings ps → q ∈ ps
+unfolding firstComings
+comings-at [] m = m
+comings-at (p ∷ ps) {q} m = go (λ k. comings-at ps k) (List·Memᴰ·cases-cons m)
+  where
+    go : (q ∈ firstComings ps → q ∈ ps) → (q ≡ p) ⊎ (q ∈ keep (λ r. not (samePart r p)) (firstComings ps)) → q ∈ p ∷ ps
+    go more (inl e) = List·Memᴰ·head e
+    go more (inr k) = List·Memᴰ·tail (more (keep-at (λ r. not (samePart r p)) (firstComings ps) k .0))
+
+pub comings-in : (ps : List Part) {q : Part} → q ∈ ps → q ∈ firstComings ps
+unfolding firstComings
+comings-in [] m = m
+comings-in (p ∷ ps) {q} m = go (λ k. comings-in ps k) (List·Memᴰ·cases-cons m) (dec (samePart q p))
+  where
+    go : (q ∈ ps → q ∈ firstComings ps) → (q ≡ p) ⊎ (q ∈ ps) → (samePart q p ≡ true) ⊎ (samePart q p ≡ false) → q ∈ firstComings (p ∷ ps)
+    go more k (inl e) = List·Memᴰ·head (same-eq q p e)
+    go more (inl e) (inr f) = List·Memᴰ·head e
+    go more (inr k) (inr f) = List·Memᴰ·tail (keep-in (λ r. not (samePart r p)) (more k) (not-of (samePart q p) f))
+
+pub comings-once : (ps : List Part) → Once (firstComings ps)
+unfolding firstComings
+comings-once [] = none-once
+comings-once (p ∷ ps) =
+    one-more
+    (λ m. contra (same-refl p) (not-true (samePart p p) (keep-at (λ r. not (samePart r p)) (firstComings ps) m .1)))
+    (keep-once (λ r. not (samePart r p)) (comings-once ps))

@@ -1,41 +1,41 @@
--- `collect`: after i turns each phase has the codes of the first i parts that change so.
+-- `collect`: after i turns the codes of the first i parts that open are stored, and those that close counted.
 use mathlib.Core.Path.{_≡_, sym, _∙_}
 use mathlib.Core.Bool.{true, false, not, Bool·beq}
 use mathlib.Core.Logic.{⊎-elim}
 use Prim.Native.Nat.{_+_, _-_, _≤_}
 use native.Mathlib.Omega.{arith}
 use denote.Ref.{now}
-use lib.ListN.{getD}
+use lib.ListN.{length, getD}
 use borrow.Author.Tests.{not-true}
 use borrow.Author.Needs.{needs}
 use Rattle.model.specs.Lists.{below, keep}
 use Rattle.model.specs.Laws.Tests.{compared}
 use Rattle.model.specs.Laws.Appended.{Appended, appended-none}
-use Rattle.phases.specs.Codes.{opens, closes, codes, turned-on, turned-off, kept, unchanged, codes-none, codes-miss, codes-hit}
+use Rattle.phases.specs.Codes.{opens, closes, codes, turned-on, turned-off, kept, unchanged, codes-none, codes-miss, codes-hit, count-none, count-miss, count-hit}
 use Rattle.phases.proofs.collect.Statement.{statement}
 use Rattle.phases.proofs.collect.Tie as tie
 
 abbrev Inv-loop : tie.InvT-loop
-Inv-loop n old new base opening₀ closing₀ opened₀ closed₀ i₀ opening closing opened closed i =
+Inv-loop n old new base opening₀ opened₀ closed₀ i₀ opening opened closed i =
     Appended (codes (opens old new) base i) opening₀ opened₀ opening opened
-    × Appended (codes (closes old new) base i) closing₀ closed₀ closing closed
+    × (closed ≡ closed₀ + length (keep (closes old new) (below i)))
     × (opened ≤ opened₀ + i)
     × (closed ≤ closed₀ + i)
     × (i ≤ n)
 
 abbrev μ-loop : tie.MeasureT-loop
-μ-loop n old new base opening₀ closing₀ opened₀ closed₀ i₀ opening closing opened closed i = n - i
+μ-loop n old new base opening₀ opened₀ closed₀ i₀ opening opened closed i = n - i
 
 returns : tie.Need-returns Inv-loop μ-loop
 returns c =
     let a = c .before .before .args in
     let same =
     unchanged (now (a .old)) (now (a .new)) (a .n) (search needs) (sym (c .before .differ .ensures) ∙ not-true _ (c .if1 .taken)) in
-    (codes-none _ _ _ (λ i m. same i m .0), (codes-none _ _ _ (λ i m. same i m .1), search needs))
+    (codes-none _ _ _ (λ i m. same i m .0), (count-none _ _ _ (λ i m. same i m .1), search needs))
 
 loop-holds : tie.Need-loop-holds Inv-loop μ-loop
 unfolding codes below keep
-loop-holds c = (appended-none _ _, appended-none _ _, search needs, search needs, search needs)
+loop-holds c = (appended-none _ _, omega arith, search needs, search needs, search needs)
 
 loop-again : tie.Need-loop-again Inv-loop μ-loop
 loop-again c =
@@ -47,8 +47,8 @@ loop-again c =
     (λ w.
     let d : not (Bool·beq was is) ≡ true = search compared in
     let t = turned-on was is d (w .1 .taken) in (
-      rw (w .2, w .4) (codes-miss _ _ _ (l .inv .0) (t .0)),
-      rw (w .3, w .5) (codes-hit _ _ _ (l .inv .1) (t .1)),
+      rw (w .2, w .3) (codes-miss _ _ _ (l .inv .0) (t .0)),
+      rw (w .4) (count-hit _ _ _ (l .inv .1) (t .1)),
       omega arith,
       omega arith,
       omega arith,
@@ -57,8 +57,8 @@ loop-again c =
     (λ w.
     let d : not (Bool·beq was is) ≡ true = search compared in
     let t = turned-off was is d (w .1 .left) in (
-      rw (w .2, w .4) (codes-hit _ _ _ (l .inv .0) (t .0)),
-      rw (w .3, w .5) (codes-miss _ _ _ (l .inv .1) (t .1)),
+      rw (w .2, w .3) (codes-hit _ _ _ (l .inv .0) (t .0)),
+      rw (w .4) (count-miss _ _ _ (l .inv .1) (t .1)),
       omega arith,
       omega arith,
       omega arith,
@@ -66,8 +66,8 @@ loop-again c =
     (λ w.
     let d : not (Bool·beq was is) ≡ false = search compared in
     let t = kept was is d in (
-      rw (w .1, w .3) (codes-miss _ _ _ (l .inv .0) (t .0)),
-      rw (w .2, w .4) (codes-miss _ _ _ (l .inv .1) (t .1)),
+      rw (w .1, w .2) (codes-miss _ _ _ (l .inv .0) (t .0)),
+      rw (w .3) (count-miss _ _ _ (l .inv .1) (t .1)),
       omega arith,
       omega arith,
       omega arith,
@@ -89,14 +89,11 @@ element-copy-out-command c = search needs
 element-copy-out-if2 : tie.Need-element-copy-out-if2 Inv-loop μ-loop
 element-copy-out-if2 c = search needs
 
-cast-code : tie.Need-cast-code Inv-loop μ-loop
-cast-code c = search needs
+cast-opening : tie.Need-cast-opening Inv-loop μ-loop
+cast-opening c = search needs
 
-add-code : tie.Need-add-code Inv-loop μ-loop
-add-code c = search needs
-
-element-write-closing : tie.Need-element-write-closing Inv-loop μ-loop
-element-write-closing c = search needs
+add-opening : tie.Need-add-opening Inv-loop μ-loop
+add-opening c = search needs
 
 add-closed : tie.Need-add-closed Inv-loop μ-loop
 add-closed c = search needs
@@ -124,10 +121,9 @@ collect-spec =
     loop-holds
     element-copy-out-command
     element-copy-out-if2
-    cast-code
-    add-code
-    element-write-closing
     add-closed
+    cast-opening
+    add-opening
     element-write-opening
     add-opened
     add-i

@@ -1,54 +1,68 @@
 -- `sheet::write` meets its contract: the sheet is laid out where it fits.
-use mathlib.Core.Path.{_≡_, sym, _∙_, ap}
-use mathlib.Core.List.{List}
+use mathlib.Core.Path.{_≡_, sym, _∙_}
+use mathlib.Core.List.{List, map}
 use Prim.Native.Nat.{ℕ, _+_, _*_, _≤_}
 use native.Mathlib.Omega.{arith}
 use denote.Ref.{now}
-use lib.ListN.{length, take}
+use lib.ListN.{length, take, length-map}
 use lib.Seq.{length-take-le}
 use borrow.Author.Needs.{needs}
-use Rattle.model.specs.Sheet.{sheet}
-use Rattle.model.specs.Reports.{commandsOf}
+use Rattle.model.specs.declared.Ring.{Ring}
+use Rattle.model.specs.Values.{partCode}
+use Rattle.model.specs.Choosing.{plan}
+use Rattle.model.specs.Sheet.{closing}
+use Rattle.model.specs.Reports.{healthOf, commandsOf}
+use Rattle.model.specs.Refusals.{nextSheet}
 use Rattle.model.specs.Laws.Tests.{facts}
-use Rattle.model.specs.Laws.Sheet.{sheet-fits}
 use Rattle.model.specs.Laws.Appended.{appended-length, appended-front}
-use Rattle.phases.specs.Codes.{openingCodes, closingCodes}
-use Rattle.layout.specs.Layout.{layout, sheet-layout, layout-length}
-use Rattle.sheet.specs.Writing.{write-refused, write-served}
+use Rattle.phases.specs.Codes.{openingCodes}
+use Rattle.layout.specs.Layout.{layout}
+use Rattle.sheet.specs.Writing.{closing-is, next-layout, next-length, write-refused, write-served}
 use Rattle.sheet.proofs.write.Statement.{statement}
 use Rattle.sheet.proofs.write.Tie as tie
 
--- what was known before the phases were made
-abbrev start : tie.After-both → tie.Start
+-- what was known before the opening phase was made
+abbrev start : tie.After-opening2 → tie.Start
 start d = d .before .before .before .before
 
+-- .. and before the closing phase
+abbrev opened : tie.After-closing2 → tie.After-opening2
+opened e = e .before .before .before .before
+
 -- the sheet
-abbrev bytes : tie.After-both → List ℕ
-bytes d = let a = start d .args in sheet (a .n) (commandsOf (a .old)) (commandsOf (a .new))
+abbrev bytes : tie.After-opening2 → List ℕ
+bytes d = nextSheet (start d .args .ring)
 
 -- the counts are the phases' sizes
-counted : (d : tie.After-both)
-    → (length (bytes d) ≡ 2 + 2 * (d .both .result .opening + d .both .result .closing)) × (length (bytes d) ≤ 122)
+counted : (d : tie.After-opening2)
+    → (length (bytes d) ≡ 2 + 2 * (d .opening2 .result .opening + d .opening2 .result .closing)) × (length (bytes d) ≤ 122)
 counted d =
-    let a = start d .args in (
-      ap length (sheet-layout (a .n) (a .old) (a .new)) ∙ layout-length _ _ ∙ omega (arith, d .both .ensures),
-      sheet-fits (a .n) (commandsOf (a .old)) (commandsOf (a .new)) (start d .pre),
-    )
+    let s = start d in
+    next-length (s .args .ring) (s .pre .0) (s .args .new) (s .pre .1 .0) (omega (arith, d .opening2 .ensures .0 .end)) (d .opening2 .ensures .1)
 
 -- what is laid out of the arrays
-abbrev laid : tie.After-both → List ℕ
-laid d =
+abbrev laid : tie.After-closing2 → List ℕ
+laid e =
+    let d = opened e in
     layout
-    (take (d .both .result .opening) (d .both .last .1 .1 .1 .0))
-    (take (d .both .result .closing) (d .both .last .1 .1 .1 .1 .0))
+    (take (d .opening2 .result .opening) (d .opening2 .last .1 .1 .1 .0))
+    (take (d .opening2 .result .closing) (e .closing2 .last .1 .1 .1 .0))
+
+-- the codes of the closing phase
+abbrev closed : Ring → List ℕ
+closed ring = map partCode (closing (ring .n) (commandsOf (ring .commands)) (plan (ring .n) (healthOf (ring .health))))
 
 -- the codes that the arrays hold are the phases'
-made : (d : tie.After-both) → laid d ≡ bytes d
-made d =
-    let a = start d .args in
-    let o : length (openingCodes (a .n) (a .old) (a .new)) ≤ 60 = omega (arith, counted d, d .both .ensures) in
-    let k : length (closingCodes (a .n) (a .old) (a .new)) ≤ 60 = omega (arith, counted d, d .both .ensures) in
-    rw (appended-front (d .both .ensures .0) o, appended-front (d .both .ensures .1) k) (sym (sheet-layout (a .n) (a .old) (a .new)))
+made : (e : tie.After-closing2) → laid e ≡ bytes (opened e)
+made e =
+    let d = opened e in
+    let s = start d in
+    let a = s .args in
+    let o : length (openingCodes (a .ring .n) (a .ring .commands) (a .new)) ≤ 60 =
+    omega (arith, counted d, d .opening2 .ensures .0 .end) in
+    let k : length (closed (a .ring)) ≤ 60 = omega (arith, counted d, e .closing2 .ensures .end) in
+    rw (appended-front (d .opening2 .ensures .0) o, appended-front (e .closing2 .ensures) k)
+    (sym (next-layout (a .ring) (s .pre .0) (a .new) (s .pre .1 .0)))
 
 add-size : tie.Need-add-size
 add-size c = omega (arith, counted (c .before))
@@ -62,23 +76,30 @@ add-size-2 c = omega (arith, counted (c .before))
 returns : tie.Need-returns
 returns c = let d = c .before .before in write-refused _ _ (omega (arith, facts, counted d))
 
+closing-requires : tie.Need-closing-requires
+closing-requires c κs =
+    let d = c .before .before .before in
+    let s = start d in
+    (s .pre .0, (s .pre .1 .1, d .opening2 .ensures .1 ∙ closing-is (s .args .ring) (s .pre .0) (s .args .new) (s .pre .1 .0)))
+
 -- the part lent is as long as the sheet
-lent : (d : tie.After-both) → length (bytes d) ≤ length (now (start d .args .buffer))
-    → length (take (2 + 2 * (d .both .result .opening + d .both .result .closing)) (now (start d .args .buffer)))
-    ≡ 2 + 2 * (d .both .result .opening + d .both .result .closing)
+lent : (d : tie.After-opening2) → length (bytes d) ≤ length (now (start d .args .buffer))
+    → length (take (2 + 2 * (d .opening2 .result .opening + d .opening2 .result .closing)) (now (start d .args .buffer)))
+    ≡ 2 + 2 * (d .opening2 .result .opening + d .opening2 .result .closing)
 lent d h = length-take-le _ (now (start d .args .buffer)) (omega (arith, counted d))
 
 slice-aggregate-lay-out : tie.Need-slice-aggregate-lay-out
 slice-aggregate-lay-out c =
-    let d = c .before .before .before .before .before in
+    let d = opened (c .before .before .before) in
     sym (length-take-le _ _ (omega (arith, facts, counted d)))
 
 lay-out-requires : tie.Need-lay-out-requires
 lay-out-requires c κs =
-    let d = c .before .before .before .before .before in (
-      appended-length (d .both .ensures .0),
+    let e = c .before .before .before in
+    let d = opened e in (
+      appended-length (d .opening2 .ensures .0),
       (
-        appended-length (d .both .ensures .1),
+        appended-length (e .closing2 .ensures),
         (
           omega (arith, counted d),
           (
@@ -91,12 +112,16 @@ lay-out-requires c κs =
 
 returns-2 : tie.Need-returns-2
 returns-2 c =
-    let d = c .before .before .before .before .before .before .before .before in
+    let e = c .before .before .before .before .before .before in
+    let d = opened e in
     write-served (bytes d) (now (start d .args .buffer)) (omega (arith, facts, counted d)) _ _
-    (_∙_ {b = laid d} (c .before .before .lay-out .ensures) (made d)) (sym (counted d .0))
+    (_∙_ {b = laid e} (c .before .before .lay-out .ensures) (made e)) (sym (counted d .0))
 
-both-requires : tie.Need-both-requires
-both-requires c κs = search needs
+cast-opening : tie.Need-cast-opening
+cast-opening c = search needs
+
+opening-requires : tie.Need-opening-requires
+opening-requires c κs = search needs
 
 slice-relend-prefix-lay-out : tie.Need-slice-relend-prefix-lay-out
 slice-relend-prefix-lay-out c = omega (arith, facts)
@@ -108,11 +133,13 @@ pub write-spec : {M : Type 1} → statement M
 write-spec =
     tie.close
     (tie.spec
-    both-requires
+    cast-opening
+    opening-requires
     add-size
     mul-size
     add-size-2
     returns
+    closing-requires
     slice-relend-prefix-lay-out
     slice-aggregate-lay-out
     lay-out-requires

@@ -1,5 +1,5 @@
 -- The paths of a bus: what is on each, and that a bus tries every path to it and no other.
-use mathlib.Core.Path.{_≡_, refl, sym}
+use mathlib.Core.Path.{_≡_, refl, sym, _∙_}
 use mathlib.Core.Bool.{Bool, true, false, not, cond}
 use mathlib.Core.Logic.{_≢_, _⊎_, inl, inr}
 use mathlib.Core.List.{
@@ -21,7 +21,7 @@ use mathlib.Core.List.{
 use Prim.Native.Nat.{ℕ, zero, suc, _≤_, _<_}
 use native.Mathlib.Omega.{arith}
 use lib.Dec.{leb, eqb}
-use borrow.Author.Tests.{leb-true, le-leb, eqb-true, ne-eqb}
+use borrow.Author.Tests.{leb-true, le-leb, eqb-true, eq-eqb, ne-eqb}
 use Rattle.model.specs.declared.Part.{Part}
 use Rattle.model.specs.Lists.{below, keep, _∈_}
 use Rattle.model.specs.Plant.{generator, generatorBreaker, busBreaker, up, arc, InRing}
@@ -268,12 +268,23 @@ from-at n b g w m = go (dec (eqb g b))
     go (inl p) = let e : w ≡ pathTo b b true = List·Memᴰ·eq-of-singleton (rw p at m) in let z = eqb-true g b p in rw e (sym z, refl)
     go (inr p) = two (rw p at m) (refl, refl) (refl, refl)
 
+-- a bus's own path is the rising one
+own-at : (n b g : ℕ) (w : Path) → w ∈ pathsFrom n b g → g ≡ b → w .rising ≡ true
+unfolding pathsFrom
+own-at n b g w m e = let own : w ≡ pathTo b b true = List·Memᴰ·eq-of-singleton (rw (eq-eqb g b e) at m) in rw own
+
 -- bus b tries each path to it, its own as the rising one
 pub tried : (n b g : ℕ) (r : Bool) → b < n → g < n → (g ≡ b → r ≡ true) → pathTo b g r ∈ paths n b
 unfolding paths
 tried n b g r hb hg own = flat-in (pathsFrom n b) (sources-in n b g hb hg) (from-in n b g r own)
 
 -- and tries nothing else
+pub tried-own : (n b : ℕ) (w : Path) → w ∈ paths n b → w .source ≡ b → w .rising ≡ true
+unfolding paths
+tried-own n b w m e =
+    let t = flat-at (pathsFrom n b) (sources n b) m in
+    own-at n b (t .0) w (t .2) (sym (from-at n b (t .0) w (t .2) .0) ∙ e)
+
 pub tried-at : (n b : ℕ) (w : Path) → b < n → w ∈ paths n b → (w .source < n) × (w .bus ≡ b)
 unfolding paths
 tried-at n b w hb m =

@@ -1,4 +1,4 @@
--- Parts above n are not read: choices, commands, phases and feeds depend on the parts of the ring alone.
+-- Parts above n are not read: choices, commands, the opening phase and feeds depend on the parts of the ring alone.
 use mathlib.Core.Path.{_≡_, refl, ap, ap₂}
 use mathlib.Core.Bool.{Bool, true, false, not, _&&_, _||_, cond}
 use mathlib.Core.List.{List, _∷_}
@@ -31,7 +31,7 @@ use Rattle.model.specs.Plant.{
 }
 use Rattle.model.specs.Priority.{Path, pathBreakers, paths}
 use Rattle.model.specs.Choosing.{usable, countedClosed, isolated, permitted, choose, chosen, plan, commands, choiceOf, choices}
-use Rattle.model.specs.Sheet.{opening, closing, sheet}
+use Rattle.model.specs.Sheet.{opening}
 use Rattle.model.specs.Laws.Lists.{all-cons, all-ext, first-ext, keep-ext, map-ext, below-lt}
 use Rattle.model.specs.Reports.{healthOf, healthPlaces, commandsOf, commandPlaces}
 use Rattle.model.specs.Laws.Parts.{at-index, parts-at, health-places, command-places}
@@ -106,27 +106,13 @@ module _ (n : ℕ) (small : n ≤ largest) (H : PartHealth) where
   pub commands-held : commands n (healthOf (healthPlaces H)) ≡ commands n H
   commands-held = λ i p. commands-ext n (healthOf (healthPlaces H)) H held p i
 
--- ---- the sheet
+-- ---- the opening phase
 
 module _ (n : ℕ) (C C′ D D′ : PartCommands) (olds : Agree n C C′) (news : Agree n D D′) where
   pub opening-ext : opening n C D ≡ opening n C′ D′
   unfolding opening
   opening-ext =
       keep-ext (λ p. C p && not (D p)) (λ p. C′ p && not (D′ p)) (parts n) (λ p m. let r = parts-at n p m in rw (olds p r, news p r))
-
-  pub closing-ext : closing n C D ≡ closing n C′ D′
-  unfolding closing
-  closing-ext =
-      keep-ext (λ p. not (C p) && D p) (λ p. not (C′ p) && D′ p) (parts n) (λ p m. let r = parts-at n p m in rw (olds p r, news p r))
-
-  pub sheet-ext : sheet n C D ≡ sheet n C′ D′
-  unfolding sheet
-  sheet-ext = rw (opening-ext, closing-ext)
-
--- the arrays that commands are made of give the sheet that they give
-pub sheet-held : (n : ℕ) (C D : PartCommands) → n ≤ largest → sheet n C (commandsOf (commandPlaces D)) ≡ sheet n C D
-sheet-held n C D small =
-    sheet-ext n C C (commandsOf (commandPlaces D)) D (λ p r. refl) (λ p r. command-places D p (r .0, omega (arith, r .1)))
 
 -- ---- the reckoning
 

@@ -1,0 +1,3 @@
+-- The laws of the closing phase's codes.
+pub mod Marks
+pub mod Outward
