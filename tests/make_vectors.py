@@ -2,7 +2,7 @@
 """Makes the stored cases of the vector programs from the simulation in tests/simulation, never from our own programs.
 
     tests/make_vectors.py                       writes crates/vectors*/data/cases and stdout, and what the gate runs
-                                                ringplant, ringtrace, ringcuts and ringscan on
+                                                ringctl, ringplant, ringtrace, ringcuts and ringscan on
     tests/make_vectors.py --seed S --out DIR    writes other cases, DIR/vectors/cases and so on; a program of stored cases
                                                 reads the file `cases` of the folder that it is run in
 
@@ -37,8 +37,8 @@ import ringsim as rs  # noqa: E402
 CRATES = os.path.join(HERE, "..", "crates")
 KINDS = (rs.GENERATOR, rs.GENERATOR_BREAKER, rs.BUS_BREAKER)
 
-# The rules that are built: document 01's with Note 3 of document 02. Notes 1 and 2 add calls, and have no switch.
-RULES = rs.Rules(note3=True)
+# The rules that are built: document 01's with Notes 3 and 4 of document 02. Notes 1 and 2 add calls, and have no switch.
+RULES = rs.Rules(note3=True, note4=True)
 
 
 def under(rules, *modules):
@@ -119,6 +119,46 @@ def returned_generators():
         yield from (fault_file(n, pairs) for pairs in returns_in(n))
 
 
+# Rings whose second waves are looked at, and the numbers of their sources and of the bus breakers that are stuck open.
+OUTWARD = {3: (1, 2, 3), 4: (1, 2, 4), 5: (1, 2, 3, 5), 8: (1, 3, 6, 8), 20: (1, 3, 12, 20)}
+
+
+def across(n, k):
+    """The number on the other side of the ring."""
+    return (k + n // 2 - 1) % n + 1
+
+
+def all_off_but(n, *sources):
+    return [("G", k, 1) for k in range(1, n + 1) if k not in sources]
+
+
+def outward_calls(n):
+    """What Note 4 of document 02 speaks of, "generator, generator breaker, then bus breakers from the generator's bus outward": faults, and a
+    report whose second wave goes outward from a source, through rising numbers and falling ones and past B1, over ways that share parts."""
+    for source, cut in itertools.product(OUTWARD[n], repeat=2):
+        gap = ("BB", across(n, cut))
+        yield all_off_but(n) + [("BB", cut, 2)], ("G", source, 0)                                    # to every bus
+        yield all_off_but(n, source) + [("BB", cut, 2), (*gap, 2)], (*gap, (source + cut) % 2 * 3)   # from one that runs, beyond a gap
+    for first, second in itertools.combinations(OUTWARD[n], 2):
+        yield all_off_but(n, first, second), ("G", first, 1)                                         # from another, over breakers in use
+
+
+def coded(reports):
+    return [(rs.code_of(kind, number), word) for kind, number, word in reports]
+
+
+def outward_files():
+    """The same one after the other, a file for each breaker that is stuck open and one for the sources that follow one another."""
+    for n, numbers in OUTWARD.items():
+        for cut in numbers:
+            gap, before = ("BB", across(n, cut)), all_off_but(n) + [("BB", cut, 2)]
+            yield fault_file(n, coded(before + [("G", source, word) for source in numbers for word in (0, 1)]))
+            yield fault_file(n, coded(before + [report for source in numbers for report in (
+                ("G", source, 0), (*gap, 2), (*gap, 0), ("G", source, 1))]))
+        yield fault_file(n, coded(all_off_but(n) + [report for first, second in itertools.combinations(numbers, 2) for report in (
+            ("G", first, 0), ("G", second, 0), ("G", first, 1), ("G", second, 1))]))
+
+
 def long_files(rng):
     for n, m in ((3, 4096), (20, 4096), (7, 4096), (5, 1000)):
         yield fault_file(n, [sim.good_pair(rng, n, mood=3) for _ in range(m)])
@@ -133,7 +173,8 @@ def random_files(rng, count):
 
 
 def runs(rng):
-    for data in itertools.chain(examples(), single_and_double_faults(), returned_generators(), long_files(rng), random_files(rng, 250)):
+    for data in itertools.chain(examples(), single_and_double_faults(), returned_generators(), outward_files(), long_files(rng),
+                                random_files(rng, 250)):
         text = sim.printed_run(data)
         yield len(data).to_bytes(2, "little") + data + text + b"\0"
 
@@ -242,6 +283,15 @@ def returning_steps(rng):
     for n in (3, 8):
         for record in damaged_records(n):
             yield from (stepped(record, rs.Part("G", g), 0, room) for g, room in ((1, 122), (n, 0), (n + 1, 1)))
+
+
+def outward_steps():
+    """Steps whose second wave goes outward, each with a buffer as long as the sheet, and now and then with one a byte shorter."""
+    for n in OUTWARD:
+        for i, (faults, (kind, number, word)) in enumerate(outward_calls(n)):
+            record = sim.record_for(n, health_with(faults))
+            length = scan_length(record, [report_on(kind, number, word)])
+            yield from (stepped(record, rs.Part(kind, number), word, room) for room in (length, length - 1)[:1 if i % 5 else 2])
 
 
 MOST_ROOM = 1024
@@ -507,6 +557,21 @@ def returning_scans():
             yield from with_rooms(sim.record_for(n, health_with(faults)), [report_on(*report) for report in reports])
 
 
+def outward_scans():
+    """Scans whose second wave goes outward from a source to every bus, from a source over breakers some of which are in use, and from two
+    sources, one of which has buses on both sides of the other's; each with a buffer as long as the sheet, and now and then a byte shorter."""
+    calls = []
+    for n, numbers in OUTWARD.items():
+        calls += [(n, all_off_but(n), [("BB", cut, 2), ("G", source, 0)]) for source, cut in itertools.product(numbers, repeat=2)]
+        for one, other in itertools.combinations(numbers, 2):
+            calls.append((n, all_off_but(n, one) + [("BB", one, 2)], [("G", one, 1), ("G", other, 0), ("BB", one, 0), ("BB", other, 2)]))
+        for cut, source in itertools.permutations(numbers if n > 5 else (), 2):
+            cuts = [("BB", cut, 2), ("BB", across(n, cut), 2)]
+            calls.append((n, all_off_but(n) + cuts, [("G", source, 0), ("G", across(n, source), 0)]))
+    for i, (n, faults, reports) in enumerate(calls):
+        yield from with_rooms(sim.record_for(n, health_with(faults)), [report_on(*report) for report in reports])[:1 if i % 5 else 2]
+
+
 def own_sheet_scans(rng):
     """Buffers too short for a single step's sheet, but not for the scan's own, for which alone 8 is checked, and the other way."""
     shorter, longer = [], []
@@ -548,7 +613,7 @@ def listed_scans(rng):
 
 def scans(rng):
     calls = itertools.chain(counted_scans(rng), bad_scans(rng), twice_bad_scans(rng), settled_scans(), returning_scans(),
-                            own_sheet_scans(rng), refused_scans(rng), listed_scans(rng))
+                            outward_scans(), own_sheet_scans(rng), refused_scans(rng), listed_scans(rng))
     return (scan_case(rng, *call) for call in calls)
 
 
@@ -652,8 +717,12 @@ def gate_plant():
     return 12, health, commands
 
 
-# BB1 sticks closed between two running generators; BB2 sticks open; G1, G2 and G3 fail; BB2, G3 and G1 come back.
-GATE_TRACE = fault_file(3, [(64, 3), (65, 2), (0, 1), (1, 1), (2, 1), (65, 0), (2, 0), (0, 0)])
+# Document 01's printed run.
+GATE_RUN = fault_file(3, [(65, 2)])
+
+# In a ring of five BB1 sticks closed between two running generators; BB3 sticks open; all generators fail; G3 comes back, and its current
+# goes round past B1 to B4; BB3 and G1 come back.
+GATE_TRACE = fault_file(5, [(64, 3), (66, 2), (0, 1), (1, 1), (3, 1), (4, 1), (2, 1), (2, 0), (66, 0), (0, 0)])
 
 # In a ring of six BB2 sticks closed, BB4 and BB5 stick open and G5 fails, so that B5 is dark; GB1 sticks open and G3 fails, and both come
 # back; G6 fails.
@@ -674,6 +743,8 @@ def gate_scans():
         [("BB", k % 5 + 1, (2, 3, 0)[k % 3]) for k in range(64)],  # 64 reports
         [("BB", 1, 0)] * 65,                                    # refused by 11; nothing changes
         [("BB", k, 0) for k in range(1, 6)] + [("GB", 2, 0)],   # all breakers come back
+        [("G", k, 1) for k in range(1, 6)],                     # every bus dark
+        [("BB", 3, 2), ("G", 3, 0)],                            # G3's current goes round past B1 to B4
     ]
     return 5, [[report_on(*report) for report in reports] for reports in calls]
 
@@ -689,7 +760,7 @@ def all_cases(seeds, started):
     yield "vectors", list(runs(random.Random(seeds[0])))
     yield "vectors_plant", list(plant(random.Random(seeds[1])))
     rng = random.Random(seeds[2])
-    yield "vectors_step", list(itertools.chain(steps(rng), returning_steps(rng)))
+    yield "vectors_step", list(itertools.chain(steps(rng), returning_steps(rng), outward_steps()))
     yield "vectors_cuts", list(itertools.chain(started, cuts(random.Random(seeds[3]))))
     yield "vectors_scan", list(scans(random.Random(seeds[4])))
 
@@ -699,6 +770,8 @@ def stored_files():
     for crate, cases in all_cases([1, 2, 3, 4, 5], started_cuts()):
         yield os.path.join(crate, "data", "cases"), b"".join(cases)
         yield os.path.join(crate, "stdout"), b"%d cases, 0 differ\n" % len(cases)
+    yield os.path.join("ringctl", "stdin"), GATE_RUN
+    yield os.path.join("ringctl", "stdout"), sim.printed_run(GATE_RUN)
     n, health, commands = gate_plant()
     yield os.path.join("ringplant", "stdin"), bytes([n]) + places(health) + places(commands)
     yield os.path.join("ringplant", "stdout"), plant_text(n, health, commands).encode()

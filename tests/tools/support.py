@@ -120,6 +120,26 @@ class ScanCase:
         return self.buffer[:end], self.buffer[end:]
 
 
+def way_of(n, bus, source, letter):
+    """A way as document 01 has it, outward: the codes of its generator, its generator breaker, and its bus breakers from the generator's bus
+    to the bus fed. Of two equally long the one through rising numbers is high."""
+    up, down = (bus - source) % n, (source - bus) % n
+    rises = (up <= down) == (letter == "h")
+    walked = range(source, source + up) if rises else range(source - 1, source - 1 - down, -1)
+    return [source - 1, 31 + source] + [64 + (k - 1) % n for k in walked]
+
+
+def ways_in(n, choices):
+    """The ways that the choices of a stored case name, of each bus that is lit, in number order."""
+    named = [(bus, chr(choices[2 * bus - 2]), choices[2 * bus - 1]) for bus in range(1, n + 1)]
+    return [way_of(n, bus, source, letter) for bus, letter, source in named if letter != "-"]
+
+
+def outward(ways, before):
+    """The second wave by Note 4 of document 02: the ways bus by bus, each part where it first comes, but for those ordered on before."""
+    return list(dict.fromkeys(code for way in ways for code in way if code not in before))
+
+
 def simulated_scans(data, together=False):
     """The simulation's answer to readable lines with scans, or to a fault file whose reports stand by themselves."""
     size, calls = faultlines.scans_of(data)

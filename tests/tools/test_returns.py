@@ -10,7 +10,7 @@ from support import (LAYOUTS, RULES, ScanCase, ToolCase, faultlines, make_vector
 
 # The papers' words: the start of a ring of three, "G1 off: G2h G2o G2h", and the ways that these take.
 HEAD = b"ring 3 reports %d\n"
-START = b"0 B1=G1o B2=G2o B3=G2h / - / G1+ G2+ GB1+ GB2+ BB2+\n"
+START = b"0 B1=G1o B2=G2o B3=G2h / - / G1+ GB1+ G2+ GB2+ BB2+\n"
 NOTHING = b"%d B1=G1o B2=G2o B3=G2h / - / -\n"
 FAILS = b"1 B1=G2h B2=G2o B3=G2h / G1- GB1- / BB1+\n"
 RETURNS = b"2 B1=G1o B2=G2o B3=G2h / BB1- / G1+ GB1+\n"
@@ -20,8 +20,8 @@ RINGS = (3, 4, 5, 20)
 class Rules(unittest.TestCase):
 
     def test_the_rules_that_are_built(self):
-        """Note 3 and no later one; every question to the simulation is bound to them."""
-        self.assertEqual(RULES, ringsim.rules_named("notes=3"))
+        """Notes 3 and 4 and no later one; every question to the simulation is bound to them."""
+        self.assertEqual(RULES, ringsim.rules_named("notes=3,4"))
         self.assertEqual({part.keywords["rules"] for part in vars(sim).values()}, {RULES})
 
     def test_the_simulation_is_asked_under_the_rules_alone(self):
@@ -190,7 +190,7 @@ class Gate(unittest.TestCase):
         n, calls = make_vectors.gate_scans()
         self.assertEqual(read("crates", "ringscan", "stdin"), make_vectors.scans_file(n, calls))
         words = [report.word for call in calls for report in call if report.part == ringsim.Part("G", 2) and report.word < 2]
-        self.assertEqual(words, [1, 0, 1, 0])
+        self.assertEqual(words, [1, 0, 1, 0, 1])
 
 
 class StoredSteps(unittest.TestCase):

@@ -8,7 +8,7 @@ from support import ToolCase, path, read, run, tool
 
 LINES = b"ring 3\nBB2 stuck open\n"
 FILE = bytes([3, 1, 0, 65, 2])
-RUN = (b"ring 3 reports 1\n0 B1=G1o B2=G2o B3=G2h / - / G1+ G2+ GB1+ GB2+ BB2+\n1 B1=G1o B2=G2o B3=G1h / BB2- / BB3+\n")
+RUN = (b"ring 3 reports 1\n0 B1=G1o B2=G2o B3=G2h / - / G1+ GB1+ G2+ GB2+ BB2+\n1 B1=G1o B2=G2o B3=G1h / BB2- / BB3+\n")
 
 
 class Ringctl(ToolCase):

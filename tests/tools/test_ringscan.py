@@ -12,7 +12,7 @@ from support import (ScanCase, ToolCase, faultlines, make_vectors, path, program
                      stored_cases, stored_runs, tool)
 
 LINES = b"ring 3\nscan\nBB2 stuck open\nBB3 stuck open\nend\nBB2 fit\nscan\nend\n"
-START = b"0 B1=G1o B2=G2o B3=G2h / - / G1+ G2+ GB1+ GB2+ BB2+\n"
+START = b"0 B1=G1o B2=G2o B3=G2h / - / G1+ GB1+ G2+ GB2+ BB2+\n"
 RUN = (START + b"1 B1=G1o B2=G2o B3=G3o / BB2- / G3+ GB3+\n2 B1=G1o B2=G2o B3=G2h / G3- GB3- / BB2+\n"
        b"3 B1=G1o B2=G2o B3=G2h / - / -\n")
 OPEN = ("BB", 2, 2)
@@ -70,10 +70,10 @@ class Program(unittest.TestCase):
         return answer.out
 
     def test_the_gates_input(self):
-        """Two faults, no reports, a bad one in the middle, a word 3 and its return, generators that return, one report, 64 and 65; what
-        is refused changes nothing, since the next line goes on from the one before it."""
+        """Two faults, no reports, a bad one in the middle, a word 3 and its return, generators that return, one report, 64 and 65, a dark
+        ring that is lit from one source; what is refused changes nothing, since the next line goes on from the one before it."""
         n, calls = make_vectors.gate_scans()
-        self.assertEqual([len(call) for call in calls], [2, 0, 3, 3, 3, 3, 1, 4, 64, 65, 6])
+        self.assertEqual([len(call) for call in calls], [2, 0, 3, 3, 3, 3, 1, 4, 64, 65, 6, 5, 2])
         self.assertEqual(numbers_in(self.holds(n, calls)), [6, 11])
         self.assertEqual(read("crates", "ringscan", "stdin"), make_vectors.scans_file(n, calls))
         self.assertEqual(read("crates", "ringscan", "stdout"), text_of(n, calls))

@@ -2,7 +2,7 @@
 import collections
 import unittest
 
-from support import ScanCase, make_vectors, ringsim, sim, stored_cases
+from support import ScanCase, make_vectors, outward, ringsim, sim, stored_cases, ways_in
 
 LONGEST = ringsim.LONGEST_SHEET
 CASES = [ScanCase(data) for data in stored_cases("vectors_scan")]
@@ -106,7 +106,8 @@ class Answers(unittest.TestCase):
         for case in SERVED:
             before, after = case.record.orders, case.after.orders
             off = [code for code in ringsim.ALL_CODES if before[code] and not after[code]]
-            on = [code for code in ringsim.ALL_CODES if after[code] and not before[code]]
+            on = outward(ways_in(case.record.n, case.choices), [code for code in before if before[code]])
+            self.assertEqual(sorted(on), [code for code in ringsim.ALL_CODES if after[code] and not before[code]])
             self.assertEqual(case.sheet(), (ringsim.sheet_bytes(off, on), bytes([170] * (case.room - 2 - 2 * len(off + on)))))
 
     def test_buffers_as_long_as_the_sheet_and_a_byte_shorter(self):
