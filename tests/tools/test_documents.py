@@ -70,6 +70,14 @@ class Commands(unittest.TestCase):
             changes.append("    " + " / ".join([" ".join([number] + changed)] + waves) + "\n")
         self.assertEqual(shown, "".join(changes))
 
+    def test_the_lamps_in_the_examples_and_on_the_card(self):
+        text, run = text_of("examples", "README.md"), text_of("examples", "current-advances.run")
+        shown = re.search(r"((?:    .*\n)+)", text.split("Its lines 7 and 10 are\n")[1]).group(1)
+        self.assertEqual(shown, "".join("    %s\n" % run.splitlines()[1 + number] for number in (7, 10)))
+        self.assertIn(" / %s\n" % re.search(r"the wave `(.*?)` of `one-cycle`", text).group(1), text_of("examples", "one-cycle.scans"))
+        choice, wave = re.search(r"In a dark ring of five `(.*?)` begins\s+the second wave with `(.*?)`", text_of("docs", "CARD.md")).groups()
+        self.assertRegex(run, r"(?m)^7 %s .* / - / %s " % (choice, re.escape(wave)))
+
     def test_the_sets_on_the_card(self):
         count, parts = re.search(r"`(B3 \d+)` says that B3 has ten, and `(.*?)` is one", text_of("docs", "CARD.md")).groups()
         lines = tool("ringcuts", "--bus", "B3", data=b"ring 3\n").out.decode().splitlines()

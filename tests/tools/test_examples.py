@@ -119,6 +119,9 @@ class Examples(ToolCase):
         self.assertIn(b" B1=G1o ", back)
         self.assertTrue(last.endswith(b" / - / -"))
         self.assertEqual(faultlines.reports_of(read("examples", "generator-returns.faults"))[-4:], [(1, 0), (4, 0), (0, 0), (3, 0)])
+        seconds = [line.split(b" / ")[2] for line in runs["current-advances"].splitlines()[1:]]
+        self.assertEqual((seconds[7], seconds[10]), (b"G3+ GB3+ BB2+ BB1+ BB5+ BB4+", b"G4+ GB4+ BB5+"))
+        self.assertIn(b"\n6 B1=- B2=- B3=- B4=- B5=- / ", runs["current-advances"])
         self.assertIn(b"\nB5 7\nBB5\n", read("examples", "planning-desk.cuts"))
         self.assertIn(b" / - / -\n", read("examples", "one-cycle.scans"))
         self.assertNotIn(b"=-", read("examples", "one-cycle.scans"))

@@ -6,7 +6,7 @@ import re
 import tempfile
 import unittest
 
-from support import ToolCase, make_vectors, program, sim, stored_runs, tool
+from support import ToolCase, make_vectors, program, read, sim, stored_runs, tool
 
 
 def story(page):
@@ -17,7 +17,7 @@ class Ringtrace(ToolCase):
 
     def test_by_the_simulation(self):
         rng = random.Random(17)
-        files = [data for data, _ in stored_runs()][:400:4] + [sim.fault_file(rng) for _ in range(60)]
+        files = [data for data, _ in stored_runs()][:400:4] + list(make_vectors.outward_files()) + [sim.fault_file(rng) for _ in range(60)]
         for data in files:
             self.assertEqual(program("ringtrace", data).out.decode(), make_vectors.trace_text(data), data)
 
@@ -41,6 +41,13 @@ class Ringview(ToolCase):
             "report": "BB1 stuck closed", "line": "1 B1=G1o B2=G1h B3=G1h / G2- GB2- BB2- / BB1+ BB3+",
             "strokes": ["G2-", "GB2-", "BB2-", "BB1+", "BB3+"],
             "feeds": ["G1!G2 G1!G2 G1!G2", "G1 G1 G1", "G1 G1 G1", "G1 G1 -", "G1 G1 -", "G1 G1 G1"]})
+
+    def test_current_advances(self):
+        """In the example of that name a dark ring is lit a bus a stroke, from G3 outward: B3, B2, B1, and past B1 to B5 and B4."""
+        lit = story(self.page(read("examples", "current-advances.txt")))["calls"][7]
+        self.assertEqual(lit["strokes"], ["G3+", "GB3+", "BB2+", "BB1+", "BB5+", "BB4+"])
+        self.assertEqual(lit["feeds"], ["- - - - -", "- - - - -", "- - G3 - -", "- G3 G3 - -", "G3 G3 G3 - -", "G3 G3 G3 - G3",
+                                        "G3 G3 G3 G3 G3"])
 
     def test_no_network(self):
         page = self.page(b"ring 20\n").decode()
