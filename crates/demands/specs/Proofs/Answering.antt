@@ -19,9 +19,9 @@ use Rattle.model.specs.declared.Ring.{Ring}
 use Rattle.model.specs.declared.Outcome.the-variants as outcome
 use Rattle.model.specs.Values.{number, wordNumber, outcomeOf}
 use Rattle.model.specs.Plant.{smallest, largest, allOff, InRing}
-use Rattle.model.specs.Choosing.{commands}
+use Rattle.model.specs.Choosing.{plan, commands}
 use Rattle.model.specs.Sheet.{opening, closing, sheetOf, sheet, written}
-use Rattle.model.specs.Reports.{reported, allFit, healthOf, commandsOf, blankRing, told, planned}
+use Rattle.model.specs.Reports.{reported, allFit, healthOf, commandsOf, blankRing, told}
 use Rattle.model.specs.Refusals.{
   firstMet,
   orElse,
@@ -124,7 +124,8 @@ module _ (ring : Ring) (buffer : List ℕ) where
   unfolding after written nextSheet sheet sheetOf
   sheet-length =
       let old = commandsOf (ring .commands) in
-      sym (sheetOf-length (opening (ring .n) old (planned ring)) (closing (ring .n) old (planned ring)))
+      let H = healthOf (ring .health) in
+      sym (sheetOf-length (opening (ring .n) old (commands (ring .n) H)) (closing (ring .n) old (plan (ring .n) H)))
 
   behind : drop (sheetLength after) after ≡ drop (sheetLength after) buffer
   unfolding after written

@@ -29,7 +29,7 @@ use borrow.Author.Tests.{le-leb, not-true}
 use Rattle.model.specs.declared.Part.{Part}
 use Rattle.model.specs.Values.{partCode, samePart}
 use Rattle.model.specs.Plant.{PartCommands, largest, parts, InRing}
-use Rattle.model.specs.Sheet.{opening, closing, sheetOf, written}
+use Rattle.model.specs.Sheet.{opening, sheetOf, written}
 use Rattle.model.specs.Laws.Tests.{contra, dec, and-left, and-right, and-intro, not-of}
 use Rattle.model.specs.Lists.{_∈_}
 use Rattle.model.specs.Laws.Lists.{map-at, keep-at, keep-in}
@@ -114,7 +114,7 @@ perm-in (List·Permᴰ·trans d e) m = perm-in e (perm-in d m)
 pub operation-at : (c : Bool) (ps : List Part) (o : Operation) → o ∈ map (operation c) ps → (o .command ≡ c) × (o .part ∈ ps)
 operation-at c ps o m = let t = map-at (operation c) ps m in (rw (t .2), rw (t .2) (t .1))
 
--- ---- the phases
+-- ---- the opening phase
 
 pub opening-at : (n : ℕ) (C D : PartCommands) (p : Part) → p ∈ opening n C D → InRing n p × (C p ≡ true) × (D p ≡ false)
 unfolding opening
@@ -125,16 +125,6 @@ opening-at n C D p m =
 pub opening-in : (n : ℕ) (C D : PartCommands) (p : Part) → InRing n p → C p ≡ true → D p ≡ false → p ∈ opening n C D
 unfolding opening
 opening-in n C D p r c d = keep-in (λ q. C q && not (D q)) (parts-in n p r) (and-intro (C p) _ c (not-of (D p) d))
-
-pub closing-at : (n : ℕ) (C D : PartCommands) (p : Part) → p ∈ closing n C D → InRing n p × (C p ≡ false) × (D p ≡ true)
-unfolding closing
-closing-at n C D p m =
-    let t = keep-at (λ q. not (C q) && D q) (parts n) m in
-    (parts-at n p (t .0), not-true (C p) (and-left (not (C p)) _ (t .1)), and-right (not (C p)) _ (t .1))
-
-pub closing-in : (n : ℕ) (C D : PartCommands) (p : Part) → InRing n p → C p ≡ false → D p ≡ true → p ∈ closing n C D
-unfolding closing
-closing-in n C D p r c d = keep-in (λ q. not (C q) && D q) (parts-in n p r) (and-intro (not (C p)) _ (not-of (C p) c) d)
 
 -- ---- the bytes
 

@@ -15,7 +15,7 @@ use Rattle.model.specs.declared.Ring.{Ring}
 use Rattle.model.specs.Lists.{anyOf, _∈_}
 use Rattle.model.specs.Values.{number}
 use Rattle.model.specs.Plant.{PartHealth, PartCommands, smallest, largest, parts, fit, healthOfKind, InRing}
-use Rattle.model.specs.Choosing.{commands, choices}
+use Rattle.model.specs.Choosing.{plan, commands, choices}
 use Rattle.model.specs.Sheet.{opening, closing, sheet}
 use Rattle.model.specs.Reports.{healthOf, commandsOf, planned, withPlan}
 use Rattle.model.specs.Refusals.{sizeOutside, healthOutside, activeAbove, unplanned, badRecord, nextSheet}
@@ -23,7 +23,8 @@ use Rattle.model.specs.Answers.{Reply, servedAnswer, servedReply}
 use Rattle.model.specs.Laws.Tests.{contra, dec, dec-lt}
 use Rattle.model.specs.Laws.Lists.{any-false, map-in}
 use Rattle.model.specs.Laws.Parts.{parts-at, command-places}
-use Rattle.theory.specs.Theorems.Locality.{Agree, choices-ext, commands-ext, commanded-in-ring, sheet-ext}
+use Rattle.theory.specs.Theorems.Locality.{Agree, choices-ext, commands-ext, commanded-in-ring}
+use Rattle.theory.specs.Theorems.Closing.{closing-at, closing-in, sheet-ext}
 use Rattle.theory.specs.Theorems.Interruption.{Fewer}
 use Rattle.demands.specs.Statements.Demand3.{
   PlantState,
@@ -46,8 +47,6 @@ use Rattle.demands.specs.Proofs.Operations.{
   operation-at,
   opening-at,
   opening-in,
-  closing-at,
-  closing-in,
   any-order,
   decode-sheet,
 }
@@ -68,13 +67,17 @@ module _ (c : Bool) (ps : List Part) where
   all-of-perm : {os : List Operation} → List·Permᴰ os (map (operation c) ps) → (p : Part) → p ∈ ps → operation c p ∈ os
   all-of-perm d p m = perm-in (Permᴰ·symm d) (map-in (operation c) m)
 
-module _ (n : ℕ) (P : PlantState) (N : PartCommands) where
+module _ (n : ℕ) (P : PlantState) (H : PartHealth) where
+  -- the new commands
+  abbrev N : PartCommands
+  N = commands n H
+
   -- the parts of the two phases
   abbrev opens : List Part
   opens = opening n (P .last) N
 
   abbrev closes : List Part
-  closes = closing n (P .last) N
+  closes = closing n (P .last) (plan n H)
 
   -- some operations of the first phase: no more is on or closed than was
   pub first-fewer : (os : List Operation) → SomeOf false opens os → Fewer n (performAll os P .last) (P .last)
@@ -99,7 +102,7 @@ module _ (n : ℕ) (P : PlantState) (N : PartCommands) where
   second-fewer Q os f all p r e = go (struck true os Q p (λ o m. all o m .0))
     where
       go : Struck true os Q p → N p ≡ true
-      go (hit m z) = closing-at n (P .last) N p (all (operation true p) m .1) .2
+      go (hit m z) = closing-at n H (P .last) p (all (operation true p) m .1) .2
       go (miss m z) = f p r (sym z ∙ e)
 
   -- after both phases the new commands stand
@@ -118,7 +121,7 @@ module _ (n : ℕ) (P : PlantState) (N : PartCommands) where
           last : Struck true ys (performAll xs P) p → Struck false xs P p → (P .last p ≡ true) ⊎ (P .last p ≡ false)
               → performAll ys (performAll xs P) .last p ≡ true
           last (hit m z) s o = z
-          last (miss m z) s (inr o) = absurd (m (all-of-perm true closes dy p (closing-in n (P .last) N p r o e)))
+          last (miss m z) s (inr o) = absurd (m (all-of-perm true closes dy p (closing-in n H (P .last) p o e)))
           last (miss m z) (hit k y) (inl o) =
               contra e (opening-at n (P .last) N p (some-of-perm false opens dx (operation false p) k .1) .2)
           last (miss m z) (miss k y) (inl o) = z ∙ y ∙ o
@@ -142,7 +145,7 @@ pub record Ready (n : ℕ) (ring : Ring) (P : PlantState) : Type 0 where
 unfoldable pub phasesOf : ℕ → PlantState → Phases
 phasesOf n P = record {
   first = map (operation false) (opening n (P .last) (commands n (P .health)));
-  second = map (operation true) (closing n (P .last) (commands n (P .health)));
+  second = map (operation true) (closing n (P .last) (plan n (P .health)));
 }
 
 -- a reply that is document 01's for a plant: what both demands say of a served call comes from it
@@ -154,20 +157,16 @@ module _ {n : ℕ} {ring : Ring} {P : PlantState} (small : n ≤ largest) (ready
   abbrev T : PartHealth
   T = healthOf (ring .health)
 
-  news : Agree n (commands n T) (commands n (P .health))
-  news p r = commands-ext n T (P .health) (ready .health) p
-
-  pub sheet-is : nextSheet ring ≡ sheet n (P .last) (commands n (P .health))
-  unfolding nextSheet planned
-  sheet-is =
-      rw (ready .size) (sheet-ext n (commandsOf (ring .commands)) (P .last) (commands n T) (commands n (P .health)) (ready .standing) news)
+  pub sheet-is : nextSheet ring ≡ sheet n (P .last) (P .health)
+  unfolding nextSheet
+  sheet-is = rw (ready .size) (sheet-ext n (commandsOf (ring .commands)) (P .last) T (P .health) (ready .standing) (ready .health))
 
   pub served-decodes : (buffer : List ℕ) → decode n (servedReply ring buffer .buffer) ≡ some (phasesOf n P)
   unfolding servedReply phasesOf sheet
   served-decodes buffer = rw sheet-is
-      (decode-sheet n small (opening n (P .last) (commands n (P .health))) (closing n (P .last) (commands n (P .health)))
+      (decode-sheet n small (opening n (P .last) (commands n (P .health))) (closing n (P .last) (plan n (P .health)))
       (λ p m. opening-at n (P .last) (commands n (P .health)) p m .0)
-      (λ p m. closing-at n (P .last) (commands n (P .health)) p m .0) buffer)
+      (λ p m. closing-at n (P .health) (P .last) p m .0) buffer)
 
   served-choices : (buffer : List ℕ) → servedReply ring buffer .answer .choices ≡ choices n (P .health)
   unfolding servedReply servedAnswer
@@ -206,17 +205,17 @@ unfolding servedReply servedAnswer withPlan planned phasesOf
 transition-steady {n} {ring} {P} small ready kinds above buffer (performed {xs = xs} {ys = ys} ax ay) = record {
   size = ready .size;
   health = λ p r. ready .health p r ∙ kept p;
-  standing = λ p r. command-places (planned ring) p (wide p r) ∙ new p ∙ sym (both-done n P (commands n (P .health)) xs ys dx dy p r);
+  standing = λ p r. command-places (planned ring) p (wide p r) ∙ new p ∙ sym (both-done n P (P .health) xs ys dx dy p r);
   above = λ p r l. (above p r l, command-places (planned ring) p r ∙ new p ∙ not-commanded n (P .health) p l);
   kinds = λ p r. rw (← ready .health p r ∙ kept p) (kinds p r);
-  planned = λ p r. both-done n P (commands n (P .health)) xs ys dx dy p r ∙ ap (λ K. commands n K p) (sym same-health);
+  planned = λ p r. both-done n P (P .health) xs ys dx dy p r ∙ ap (λ K. commands n K p) (sym same-health);
   shown = served-choices small ready buffer ∙ ap (choices n) (sym same-health);
 }
   where
     dx : List·Permᴰ xs (map (operation false) (opening n (P .last) (commands n (P .health))))
     dx = any-order ax
 
-    dy : List·Permᴰ ys (map (operation true) (closing n (P .last) (commands n (P .health))))
+    dy : List·Permᴰ ys (map (operation true) (closing n (P .last) (plan n (P .health))))
     dy = any-order ay
 
     same-health : performAll ys (performAll xs P) .health ≡ P .health

@@ -131,7 +131,7 @@ onPhases (some ph) f = f ph
 unfoldable pub due : ℕ → PlantState → Call → ℕ
 due n P call =
     let Q = afterWords (words call) P in
-    callNumber n call (sheet n (Q .last) (commands n (Q .health)))
+    callNumber n call (sheet n (Q .last) (Q .health))
 
 unfoldable pub refusedInVain : ℕ → Reply → Bool
 refusedInVain k reply = not (isServed reply) && differ (outcomeNumber (reply .answer .outcome)) k
@@ -201,7 +201,7 @@ otherFirst n P ph = differ (operationsDigest (ph .first)) (operationsDigest (map
 
 unfoldable pub otherSecond : ℕ → PlantState → Phases → Bool
 otherSecond n P ph =
-    differ (operationsDigest (ph .second)) (operationsDigest (map (operation true) (closing n (P .last) (newCommands n P))))
+    differ (operationsDigest (ph .second)) (operationsDigest (map (operation true) (closing n (P .last) (plan n (P .health)))))
 
 -- interrupted in a phase after some of its operations, at a moment that is not excepted
 unfoldable pub clashInFirst : ℕ → Bool → ℕ → List Report → PlantState → Phases → Bool
@@ -240,7 +240,7 @@ pub data Claim3 : Type 0 where
 -- each claim of demand 2, by its field
 pub data Claim2 : Type 0 where
   start-answered call-answered start-path call-path : Claim2
-  opens all-open closes all-close opens-rising closes-rising brings-about : Claim2
+  opens all-open closes all-close opens-rising closes-outward brings-about : Claim2
 
 module _ (c : Controller) (i : Instance) where
   -- the reply to the start
@@ -326,7 +326,7 @@ module _ (c : Controller) (i : Instance) where
       atPhases (λ P ph. anyOf (λ p. not (hasOperation false p (ph .first))) (opening (i .size) (P .last) (newCommands (i .size) P)))
   fails2 closes = atPhases (λ P ph. anyOf (extraClose (i .size) P) (ph .second))
   fails2 all-close =
-      atPhases (λ P ph. anyOf (λ p. not (hasOperation true p (ph .second))) (closing (i .size) (P .last) (newCommands (i .size) P)))
+      atPhases (λ P ph. anyOf (λ p. not (hasOperation true p (ph .second))) (closing (i .size) (P .last) (plan (i .size) (P .health))))
   fails2 opens-rising = atPhases (λ P ph. not (rises (map (λ o. partCode (o .part)) (ph .first))))
-  fails2 closes-rising = atPhases (λ P ph. not (rises (map (λ o. partCode (o .part)) (ph .second))))
+  fails2 closes-outward = atPhases (otherSecond (i .size))
   fails2 brings-about = atPhases (λ P ph. anyOf (otherOutcome (i .size) P (bothPhases (i .backward) ph P)) (parts (i .size)))

@@ -29,6 +29,7 @@ use Rattle.model.specs.Answers.{Reply}
 use Rattle.model.specs.Laws.Tests.{contra, dec, dec-lt, or-cases, and-left, and-right, and-intro}
 use Rattle.model.specs.Laws.Lists.{any-at, any-in, below-lt, first-none, first-past, none-some}
 use Rattle.model.specs.Laws.Parts.{parts-at, same-refl}
+use Rattle.model.specs.Laws.Sheet.{closing-paths}
 use Rattle.model.specs.Laws.Choosing.{choices-at}
 use Rattle.theory.specs.Theorems.Completeness.{de-energized-exactly}
 use Rattle.theory.specs.Theorems.Feeds.{reaches-usable, usable-reaches}
@@ -78,7 +79,8 @@ use Rattle.demands.specs.Statements.Demand3.{
   Holds,
   Demand3,
 }
-use Rattle.demands.specs.Proofs.Operations.{opening-at, closing-at}
+use Rattle.theory.specs.Theorems.Closing.{closing-at}
+use Rattle.demands.specs.Proofs.Operations.{opening-at}
 use Rattle.demands.specs.Proofs.Answering.{Judged, met, fine, judge-start, judge-call, CallFine}
 use Rattle.demands.specs.Statements.Demand2.{FirstPermitted, found, not-found, earlier, Needed, ToOpen, ToClose, Serves, Demand2}
 use Rattle.demands.specs.Theorems.Demand2.{earlier-chosen, needed-commanded}
@@ -397,7 +399,7 @@ module _ {n : ℕ} {P : PlantState} {reply : Reply} (small : n ≤ largest) (a :
   first-sound d e = unequal _ _ (ap operationsDigest (rw (same-phases d (a .decodes)) (a .first-is))) e
 
   second-sound : {ph : Phases} → decode n (reply .buffer) ≡ some ph → otherSecond n P ph ≡ true → ⊥
-  unfolding otherSecond newCommands
+  unfolding otherSecond
   second-sound d e = unequal _ _ (ap operationsDigest (rw (same-phases d (a .decodes)) (a .second-is))) e
 
 -- ---- no bus is fed by two generators
@@ -689,17 +691,20 @@ module _ {n : ℕ} {P : PlantState} {reply : Reply} (s : Serves n P reply) where
         let t = opening-at n (P .last) (commands n R) p m in
         rw is (s .all-open (operation false p) (refl, t .0, t .1, off-path p (t .2)))) e
 
-    all-close-sound : anyOf (λ p. not (hasOperation true p (ph .second))) (closing n (P .last) (newCommands n P)) ≡ true → ⊥
-    unfolding newCommands
-    all-close-sound e = missing true (ph .second) (closing n (P .last) (commands n R)) (λ p m.
-        let t = closing-at n (P .last) (commands n R) p m in
+    all-close-sound : anyOf (λ p. not (hasOperation true p (ph .second))) (closing n (P .last) (plan n (P .health))) ≡ true → ⊥
+    all-close-sound e = missing true (ph .second) (closing n (P .last) (plan n R)) (λ p m.
+        let t = closing-at n R (P .last) p m in
         rw is (s .all-close (operation true p) (refl, t .0, t .1, on-path p (t .2)))) e
 
     opens-rising-sound : not (rises (map (λ o. partCode (o .part)) (ph .first))) ≡ true → ⊥
     opens-rising-sound e = contra (rw is (rises-by (s .opens-rising))) (not-true (rises (map (λ o. partCode (o .part)) (ph .first))) e)
 
-    closes-rising-sound : not (rises (map (λ o. partCode (o .part)) (ph .second))) ≡ true → ⊥
-    closes-rising-sound e = contra (rw is (rises-by (s .closes-rising))) (not-true (rises (map (λ o. partCode (o .part)) (ph .second))) e)
+    closes-outward-sound : otherSecond n P ph ≡ true → ⊥
+    unfolding otherSecond
+    closes-outward-sound e = unequal _ _ (ap operationsDigest (rw is (s .second-is ∙ ap (map (operation true)) same))) e
+      where
+        same : closing n (P .last) (s .path) ≡ closing n (P .last) (plan n R)
+        same = closing-paths n (P .last) (s .path) (plan n R) path-is
 
     brings-about-sound : (backward : Bool) → anyOf (otherOutcome n P (bothPhases backward ph P)) (parts n) ≡ true → ⊥
     unfolding otherOutcome newCommands
@@ -759,14 +764,14 @@ module _ (c : Controller) (i : Instance) (d : Demand2 c) where
       let t = at-phases c i (λ P ph. anyOf (extraClose M P) (ph .second)) e in
       closes-sound (serving (t .1) (t .2)) (t .4) (t .5)
   refutes2 claim.all-close e =
-      let t = at-phases c i (λ P ph. anyOf (λ p. not (hasOperation true p (ph .second))) (closing M (P .last) (newCommands M P))) e in
+      let t = at-phases c i (λ P ph. anyOf (λ p. not (hasOperation true p (ph .second))) (closing M (P .last) (plan M (P .health)))) e in
       all-close-sound (serving (t .1) (t .2)) (t .4) (t .5)
   refutes2 claim.opens-rising e =
       let t = at-phases c i (λ P ph. not (rises (map (λ o. partCode (o .part)) (ph .first)))) e in
       opens-rising-sound (serving (t .1) (t .2)) (t .4) (t .5)
-  refutes2 claim.closes-rising e =
-      let t = at-phases c i (λ P ph. not (rises (map (λ o. partCode (o .part)) (ph .second)))) e in
-      closes-rising-sound (serving (t .1) (t .2)) (t .4) (t .5)
+  refutes2 claim.closes-outward e =
+      let t = at-phases c i (otherSecond M) e in
+      closes-outward-sound (serving (t .1) (t .2)) (t .4) (t .5)
   refutes2 claim.brings-about e =
       let t = at-phases c i (λ P ph. anyOf (otherOutcome M P (bothPhases (i .backward) ph P)) (parts M)) e in
       brings-about-sound (serving (t .1) (t .2)) (t .4) (i .backward) (t .5)

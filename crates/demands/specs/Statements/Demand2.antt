@@ -4,7 +4,7 @@
 use mathlib.Core.Path.{_≡_}
 use mathlib.Core.Bool.{true, false}
 use mathlib.Core.Logic.{_↔_}
-use mathlib.Core.List.{List, [], _∷_, _++_}
+use mathlib.Core.List.{List, [], _∷_, _++_, map}
 use mathlib.Core.Option.{Option, none, some}
 use Prim.Native.Nat.{ℕ, zero, suc, _<_}
 use lib.ListN.{length, getD}
@@ -14,6 +14,7 @@ use Rattle.model.specs.Values.{partCode}
 use Rattle.model.specs.Plant.{PartHealth, InRing}
 use Rattle.model.specs.Priority.{Path, pathParts, paths}
 use Rattle.model.specs.Choosing.{permitted, addPath, choiceOf}
+use Rattle.model.specs.Sheet.{closing}
 use Rattle.model.specs.Reports.{blankRing}
 use Rattle.model.specs.Answers.{Reply}
 use Rattle.model.specs.Lists.{_∈_, RisingBy}
@@ -23,6 +24,7 @@ use Rattle.demands.specs.Statements.Demand3.{
   freshPlant,
   afterWords,
   Operation,
+  operation,
   Phases,
   decode,
   Calls,
@@ -69,7 +71,7 @@ pub record Serves (n : ℕ) (P : PlantState) (reply : Reply) : Type 0 where
   pub named : (b : ℕ) → b < n → getD (reply .answer .choices) b (record { choice = Dark }) .choice ≡ choiceOf n (path b)
   -- "each bus, in number order, gets the first way .. that the known faults and the earlier buses' ways permit"
   pub first-permitted : (b : ℕ) → b < n → FirstPermitted n (P .health) (earlier path b) (paths n b) (path b)
-  -- "the orders in both waves are those that bring this about, none missing or extra", each once, in rising code
+  -- "the orders in both waves are those that bring this about, none missing or extra", the first wave in rising code
   pub phases : Phases
   pub decodes : decode n (reply .buffer) ≡ some phases
   pub opens : (o : Operation) → o ∈ phases .first → ToOpen n P path o
@@ -77,7 +79,9 @@ pub record Serves (n : ℕ) (P : PlantState) (reply : Reply) : Type 0 where
   pub closes : (o : Operation) → o ∈ phases .second → ToClose n P path o
   pub all-close : (o : Operation) → ToClose n P path o → o ∈ phases .second
   pub opens-rising : RisingBy (λ (o : Operation). partCode (o .part)) (phases .first)
-  pub closes-rising : RisingBy (λ (o : Operation). partCode (o .part)) (phases .second)
+  -- "The second wave goes through buses in number order and each chosen way in that sequence, a part only where it first comes." (document
+  -- 02, Note 4): it is that list for these paths
+  pub second-is : phases .second ≡ map (operation true) (closing n (P .last) path)
   pub brings-about : (Q : PlantState) → Performed phases P Q → (p : Part) → InRing n p → Q .last p ≡ true ↔ Needed n path p
 
 -- "For every list of reports": a statement about a controller

@@ -1,7 +1,7 @@
 -- The user's third demand as ONE statement about a controller, a served start and any list of calls after it.
 -- It knows nothing of how a controller comes to its answers. The plant is fed n, the words of served reports, whether each
 -- call was served, and the bytes of the lent buffers after served calls; never a record.
--- Document 01, "The plant beside the list", and document 02, Notes 2 and 3. A stroke is an operation here, a halt an interruption, a wave a
+-- Document 01, "The plant beside the list", and document 02, Notes 2 to 4. A stroke is an operation here, a halt an interruption, a wave a
 -- phase.
 use mathlib.Core.Path.{_≡_}
 use mathlib.Core.Bool.{Bool, true, false, not, _&&_, cond}
@@ -27,7 +27,7 @@ use Rattle.model.specs.declared.Feed.the-variants as feed
 use Rattle.model.specs.Lists.{anyOf}
 use Rattle.model.specs.Values.{number, samePart, choiceSource}
 use Rattle.model.specs.Plant.{PartHealth, PartCommands, smallest, largest, busFeed, InRing, Reaches}
-use Rattle.model.specs.Choosing.{commands, choices}
+use Rattle.model.specs.Choosing.{plan, commands, choices}
 use Rattle.model.specs.Sheet.{opening, closing, sheet}
 use Rattle.model.specs.Reports.{partNamed, healthOf, commandsOf, blankRing}
 use Rattle.model.specs.Answers.{Reply, allDark}
@@ -275,7 +275,7 @@ pub record AsChosen (n : ℕ) (P : PlantState) (reply : Reply) : Type 0 where
   pub phases : Phases
   pub decodes : decode n (reply .buffer) ≡ some phases
   pub first-is : phases .first ≡ map (operation false) (opening n (P .last) (commands n (P .health)))
-  pub second-is : phases .second ≡ map (operation true) (closing n (P .last) (commands n (P .health)))
+  pub second-is : phases .second ≡ map (operation true) (closing n (P .last) (plan n (P .health)))
 
 -- refusal 6 by part and word, 0 where it does not meet them; "word 0 makes a generator fit again" (document 02, Note 3)
 unfoldable pub wordRefusal : Part → Word → ℕ
@@ -294,7 +294,7 @@ wordRefusal (BusBreaker k) StuckClosed = 0
 
 -- how many bytes the sheet for a plant has
 abbrev pub sheetFor : ℕ → PlantState → ℕ
-sheetFor n P = length (sheet n (P .last) (commands n (P .health)))
+sheetFor n P = length (sheet n (P .last) (P .health))
 
 -- "a start 2, 8": the refusal that meets a start, with a buffer of this length
 pub data StartMeets (n room : ℕ) : ℕ → Type 0 where

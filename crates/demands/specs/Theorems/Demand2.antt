@@ -20,8 +20,9 @@ use Rattle.model.specs.Laws.Choosing.{choices-at}
 use Rattle.model.specs.Laws.Parts.{parts-rise}
 use Rattle.theory.specs.Proofs.Choosing.{on-in}
 use Rattle.theory.specs.Theorems.Feeds.{commanded-at}
+use Rattle.theory.specs.Theorems.Closing.{closing-at, closing-in}
 use Rattle.demands.specs.Statements.Demand3.{PlantState, Operation, operation, isServed, Performed, performed}
-use Rattle.demands.specs.Proofs.Operations.{any-order, operation-at, opening-at, opening-in, closing-at, closing-in}
+use Rattle.demands.specs.Proofs.Operations.{any-order, operation-at, opening-at, opening-in}
 use Rattle.demands.specs.Proofs.Steady.{phasesOf, Replied, both-done}
 use Rattle.demands.specs.Proofs.Answering.{start-answered, start-fine}
 use Rattle.demands.specs.Controller.{controller}
@@ -88,24 +89,19 @@ module _ (n : ℕ) (P : PlantState) where
         (map-in (operation false) (opening-in n L N (o .part) (t .1) (t .2) (idle (o .part) (t .3)))),
   )
 
-  pub closes-exactly : (o : Operation) → o ∈ map (operation true) (closing n L N) ↔ ToClose n P (plan n H) o
+  pub closes-exactly : (o : Operation) → o ∈ map (operation true) (closing n L (plan n H)) ↔ ToClose n P (plan n H) o
   closes-exactly o = (
     λ m. let t =
-        operation-at true (closing n L N) o m in let u =
-        closing-at n L N (o .part) (t .1) in (t .0, u .0, u .1, needed-commanded n H (o .part) .1 (u .2)),
+        operation-at true (closing n L (plan n H)) o m in let u =
+        closing-at n H L (o .part) (t .1) in (t .0, u .0, u .1, needed-commanded n H (o .part) .1 (u .2)),
     λ t. Memᴰ·cast (is-operation true o (t .0))
-        (map-in (operation true) (closing-in n L N (o .part) (t .1) (t .2) (needed-commanded n H (o .part) .0 (t .3)))),
+        (map-in (operation true) (closing-in n H L (o .part) (t .2) (needed-commanded n H (o .part) .0 (t .3)))),
   )
 
   pub opens-rise : n ≤ largest → RisingBy (λ (o : Operation). partCode (o .part)) (map (operation false) (opening n L N))
   unfolding opening
   opens-rise small =
       rising-map (λ (o : Operation). partCode (o .part)) (operation false) (rising-keep (λ p. L p && not (N p)) (parts-rise n small))
-
-  pub closes-rise : n ≤ largest → RisingBy (λ (o : Operation). partCode (o .part)) (map (operation true) (closing n L N))
-  unfolding closing
-  closes-rise small =
-      rising-map (λ (o : Operation). partCode (o .part)) (operation true) (rising-keep (λ p. not (L p) && N p) (parts-rise n small))
 
 -- ---- what a served call's answer is
 
@@ -122,13 +118,13 @@ serves {n} {P} small a = record {
   closes = λ o m. closes-exactly n P o .0 m;
   all-close = λ o t. closes-exactly n P o .1 t;
   opens-rising = opens-rise n P small;
-  closes-rising = closes-rise n P small;
+  second-is = refl;
   brings-about = about;
 }
   where
     about : (Q : PlantState) → Performed (phasesOf n P) P Q → (p : Part) → InRing n p → Q .last p ≡ true ↔ Needed n (plan n (P .health)) p
     about Q (performed {xs = xs} {ys = ys} dx dy) p i =
-        let e = both-done n P (commands n (P .health)) xs ys (any-order dx) (any-order dy) p i in
+        let e = both-done n P (P .health) xs ys (any-order dx) (any-order dy) p i in
         (λ t. needed-commanded n (P .health) p .1 (sym e ∙ t), λ t. e ∙ needed-commanded n (P .health) p .0 t)
 
 pub demand2 : Demand2 controller

@@ -332,7 +332,7 @@ module _ (n : ℕ) (P₀ : PlantState) (rs : List Report) (stands : Fewer n (P�
   in-first-single done rest d (no-word-3 e) b hb =
       rw (perform-health done P)
       (opening-single n (P₀ .health) (P .health) (performAll done P .last) none-closed
-      (λ p i c. stands p i (rw words-last at (first-fewer n P N done (some-of-prefix false (opening n (P .last) N) done rest d) p i c)))
+      (λ p i c. stands p i (rw words-last at (first-fewer n P (P .health) done (some-of-prefix false (opening n (P .last) N) done rest d) p i c)))
       b hb)
     where
       none-closed : NoneStuckClosed n (P₀ .health) (P .health)
@@ -342,16 +342,17 @@ module _ (n : ℕ) (P₀ : PlantState) (rs : List Report) (stands : Fewer n (P�
       }
   in-first-single done rest d (all-opened e) b hb =
       rw (perform-health done P)
-      (closing-single n (P .health) (performAll done P .last) (first-done n P N done (rw (empty-is rest e, append-nil) at d)) b hb)
+      (closing-single n (P .health) (performAll done P .last) (first-done n P (P .health) done (rw (empty-is rest e, append-nil) at d)) b hb)
 
   -- all of the first, and some of the second
   in-second-single : (xs done rest : List Operation) → List·Permᴰ xs (map (operation false) (opening n (P .last) N))
-      → List·Permᴰ (done ++ rest) (map (operation true) (closing n (P .last) N))
+      → List·Permᴰ (done ++ rest) (map (operation true) (closing n (P .last) (plan n (P .health))))
       → (b : ℕ) → b < n → Single n (performAll done (performAll xs P) .health) (performAll done (performAll xs P) .last) b
   in-second-single xs done rest dx dy b hb =
       rw (perform-health done (performAll xs P) ∙ perform-health xs P)
       (closing-single n (P .health) (performAll done (performAll xs P) .last)
-      (second-fewer n P N (performAll xs P) done (first-done n P N xs dx) (some-of-prefix true (closing n (P .last) N) done rest dy)) b hb)
+      (second-fewer n P (P .health) (performAll xs P) done (first-done n P (P .health) xs dx)
+      (some-of-prefix true (closing n (P .last) (plan n (P .health))) done rest dy)) b hb)
 
   moment-single : {rest : List Operation} {Q : PlantState} → Moment (phasesOf n P) P rest Q → Unless rs rest → (b : ℕ) → b < n
       → Single n (Q .health) (Q .last) b

@@ -39,9 +39,9 @@ use Rattle.model.specs.Scans.{toldAll}
 use Rattle.model.specs.Laws.Tests.{contra, dec, dec-lt, or-none, or-cases}
 use Rattle.model.specs.Laws.Lists.{any-in, any-none}
 use Rattle.model.specs.Laws.Parts.{at-index, parts-in, parts-at, same-eq, same-refl, is-places, places-ext, health-places}
-use Rattle.model.specs.Laws.Sheet.{sheet-fits}
 use Rattle.model.specs.Laws.Refusals.{good-size}
 use Rattle.theory.specs.Theorems.Locality.{Agree, commands-ext, commands-held}
+use Rattle.theory.specs.Theorems.Closing.{sheet-fits}
 use Rattle.demands.specs.Statements.Demand3.{
   freshPlant,
   afterWords,
@@ -167,7 +167,7 @@ pub served-step : {n : ℕ} {W : World} → smallest ≤ n → n ≤ largest →
 served-step {n} {W} big small s r good =
     let call = step r fullRoom in
     let Q = afterWords (words call) (W .plant) in
-    let fits = sheet-fits n (Q .last) (commands n (Q .health)) small in
+    let fits = sheet-fits n (Q .health) (Q .last) small in
     fine-served big small s call (record { few = omega arith; good = good-and good no-reports; fits = omega (arith, full-length) })
 
 -- .. with the ring that was told it
@@ -206,7 +206,7 @@ word-for (BusBreaker k) h e = breaker-word (BusBreaker k) h refl refl refl e
 
 start-begun : (n : ℕ) → smallest ≤ n → n ≤ largest → isServed (startReply n fullRoom) ≡ true
 start-begun n big small =
-    let fits = sheet-fits n (freshPlant .last) (commands n (freshPlant .health)) small in
+    let fits = sheet-fits n (freshPlant .health) (freshPlant .last) small in
     fine-begun n fullRoom (record { big = big; small = small; fits = omega (arith, full-length) })
 
 start-made : (n : ℕ) → smallest ≤ n → n ≤ largest → Made (ringFor n allFit)

@@ -97,7 +97,7 @@ performed-planned {n} {P} a d (performed {xs = xs} {ys = ys} ax ay) p i =
     let z = same-phases d (a .decodes) in
     let dx = rw (z, a .first-is) at (any-order ax) in
     let dy = rw (z, a .second-is) at (any-order ay) in
-    both-done n P (commands n (P .health)) xs ys dx dy p i
+    both-done n P (P .health) xs ys dx dy p i
     ∙ ap (λ K. commands n K p) (sym (judged-after (performed ax ay)))
 
 module _ {c : Controller} (meets : Demand3 c) (n : ℕ) (buffer : List ℕ) (begun : isServed (c .start n buffer) ≡ true) where

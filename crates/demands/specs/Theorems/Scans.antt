@@ -15,20 +15,21 @@ use Rattle.model.specs.declared.Ring.{Ring}
 use Rattle.model.specs.declared.BusChoice.{BusChoice}
 use Rattle.model.specs.declared.Outcome.the-variants as outcome
 use Rattle.model.specs.Lists.{_∈_}
-use Rattle.model.specs.Plant.{PartCommands, parts}
-use Rattle.model.specs.Choosing.{commands}
-use Rattle.model.specs.Sheet.{opening, closing, sheetOf, sheet, written}
+use Rattle.model.specs.Plant.{PartHealth, PartCommands, parts, InRing}
+use Rattle.model.specs.Choosing.{plan, commands}
+use Rattle.model.specs.Sheet.{opening, sequence, closing, sheetOf, sheet, written}
 use Rattle.model.specs.Reports.{healthOf, commandsOf, commandPlaces, told, planned, withPlan}
 use Rattle.model.specs.Refusals.{firstMet, orElse, badRecord, countAbove, tooShort, sheetRefusal, nextSheet, reportConditions, stepRefusal}
 use Rattle.model.specs.Answers.{servedAnswer, servedReply, refusedAnswer, refusedReply, stepReply}
 use Rattle.model.specs.Scans.{scanReports, toldAll, firstRefusal, scanRefusal, scanReply}
 use Rattle.model.specs.Laws.Tests.{contra, dec, dec-eq}
 use Rattle.model.specs.Laws.Lists.{keep-none}
-use Rattle.model.specs.Laws.Parts.{parts-at}
+use Rattle.model.specs.Laws.Parts.{parts-at, command-places}
 use Rattle.model.specs.Laws.Refusals.{good-size}
 use Rattle.model.specs.Laws.Calls.{or-nothing, step-refusal, scan-refusal}
 use Rattle.model.specs.Laws.Scans.{told-size, told-standing}
-use Rattle.theory.specs.Theorems.Locality.{sheet-held}
+use Rattle.theory.specs.Theorems.Locality.{commanded-in-ring, opening-ext}
+use Rattle.theory.specs.Theorems.Closing.{sequence-exactly}
 use Rattle.demands.specs.Statements.Demand3.{step, scan, isServed, AllGood, no-reports, good-and}
 use Rattle.demands.specs.Statements.Records.{Made, stepped, Arrays}
 use Rattle.demands.specs.Statements.Scans.{calledFor, Singly, no-step, first-step}
@@ -58,14 +59,22 @@ module _ (ring : Ring) (s : Scan) (buffer : List ℕ) (yes : isServed (scanReply
       let size = good-size ring good in
       served-fine (size .0) (size .1) (good-steady ring good) (scan s buffer) yes .good
 
-  -- "the sheet goes straight from the first standing orders to the last"
-  pub sheet-straight : let last = scanReply ring s buffer .answer .ring .commands in
-      scanReply ring s buffer .buffer ≡ written (sheet (ring .n) (commandsOf (ring .commands)) (commandsOf last)) buffer
-  unfolding servedReply servedAnswer withPlan nextSheet toldAll
+  -- "the sheet goes straight from the first standing orders to the last", the second wave by the choices for the last health
+  pub sheet-straight :
+      let first = commandsOf (ring .commands) in
+      let last = scanReply ring s buffer .answer .ring in
+      scanReply ring s buffer .buffer ≡ written
+      (sheetOf (opening (ring .n) first (commandsOf (last .commands))) (closing (ring .n) first (plan (ring .n) (healthOf (last .health))))) buffer
+  unfolding servedReply servedAnswer withPlan nextSheet sheet planned toldAll
   sheet-straight =
       let told-ring = toldAll ring (scanReports s) in
-      let held = sheet-held (ring .n) (commandsOf (ring .commands)) (planned told-ring) (good-size ring served-record .1) in
-      rw (scan-is, told-size ring (scanReports s), told-standing ring (scanReports s)) (ap (λ bytes. written bytes buffer) (sym held))
+      let first = commandsOf (ring .commands) in
+      let new = commands (ring .n) (healthOf (told-ring .health)) in
+      let small = good-size ring served-record .1 in
+      let same = opening-ext (ring .n) first first (commandsOf (commandPlaces new)) new (λ p r. refl)
+      (λ p r. command-places new p (r .0, omega (arith, r .1))) in
+      rw (scan-is, told-size ring (scanReports s), told-standing ring (scanReports s))
+      (ap (λ ps. written (sheetOf ps (closing (ring .n) first (plan (ring .n) (healthOf (told-ring .health))))) buffer) (sym same))
 
 -- ---- "The record and choices must be those that single steps would end with"
 
@@ -189,27 +198,35 @@ module _ (ring : Ring) (good : badRecord ring ≡ false) (s : Scan) (few : s .co
 
 -- nothing changes between a good record's standing commands and those that it calls for
 pub still : (ring : Ring) → badRecord ring ≡ false → nextSheet ring ≡ 0 ∷ 0 ∷ []
-unfolding nextSheet sheet sheetOf opening closing planned
+unfolding nextSheet sheet sheetOf opening closing
 still ring good =
     rw (
-      keep-none (λ p. C p && not (N p)) (parts (ring .n)) (λ p m. same p m .0),
-      keep-none (λ p. not (C p) && N p) (parts (ring .n)) (λ p m. same p m .1),
+      keep-none (λ p. C p && not (N p)) (parts (ring .n)) (λ p m. none-opens p (parts-at (ring .n) p m)),
+      keep-none (λ p. not (C p)) (sequence (ring .n) (plan (ring .n) H))
+          (λ p m. none-closes p (sequence-exactly (ring .n) H p .0 m)),
     )
   where
+    H : PartHealth
+    H = healthOf (ring .health)
+
     C : PartCommands
     C = commandsOf (ring .commands)
 
     N : PartCommands
-    N = commands (ring .n) (healthOf (ring .health))
+    N = commands (ring .n) H
 
-    equal : (a b : Bool) → a ≡ b → (a && not b ≡ false) × (not a && b ≡ false)
-    equal true b e = (rw (← e), refl)
-    equal false b e = (refl, sym e)
+    same : (p : Part) → InRing (ring .n) p → C p ≡ N p
+    same p i = as-planned ring good p (i .0, omega (arith, i .1, good-size ring good .1))
 
-    same : (p : Part) → p ∈ parts (ring .n) → (C p && not (N p) ≡ false) × (not (C p) && N p ≡ false)
-    same p m =
-        let i = parts-at (ring .n) p m in
-        equal (C p) (N p) (as-planned ring good p (i .0, omega (arith, i .1, good-size ring good .1)))
+    neither : (b : Bool) → b && not b ≡ false
+    neither true = refl
+    neither false = refl
+
+    none-opens : (p : Part) → InRing (ring .n) p → C p && not (N p) ≡ false
+    none-opens p i = rw (same p i) (neither (N p))
+
+    none-closes : (p : Part) → N p ≡ true → not (C p) ≡ false
+    none-closes p e = rw (same p (commanded-in-ring (ring .n) H p e), e)
 
 pub empty-scan : (ring : Ring) → Arrays ring → badRecord ring ≡ false → (s : Scan) → s .count ≡ 0 → (buffer : List ℕ) → 2 ≤ length buffer
     → scanReply ring s buffer ≡ record {

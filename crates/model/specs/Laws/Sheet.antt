@@ -1,19 +1,21 @@
 -- Laws of the command sheet: its length, and the parts of a list where each first comes.
-use mathlib.Core.Path.{_≡_, refl}
+use mathlib.Core.Path.{_≡_, refl, ap}
 use mathlib.Core.Bool.{true, false, not, _&&_}
 use mathlib.Core.Logic.{_⊎_, inl, inr}
 use mathlib.Core.List.{List, [], _∷_, List·Memᴰ·head, List·Memᴰ·tail, List·Memᴰ·cases-cons}
-use Prim.Native.Nat.{ℕ, _+_, _*_}
+use mathlib.Core.Option.{Option}
+use Prim.Native.Nat.{ℕ, _+_, _*_, _<_}
 use native.Mathlib.Omega.{arith}
 use lib.ListN.{length, length-append, length-map}
 use borrow.Author.Tests.{not-true}
 use Rattle.model.specs.declared.Part.{Part}
-use Rattle.model.specs.Lists.{keep, _∈_}
+use Rattle.model.specs.Lists.{below, keep, _∈_}
 use Rattle.model.specs.Values.{samePart}
 use Rattle.model.specs.Plant.{PartCommands, parts}
-use Rattle.model.specs.Sheet.{firstComings, sheetOf}
+use Rattle.model.specs.Priority.{Path}
+use Rattle.model.specs.Sheet.{firstComings, partsOf, sequence, closing, sheetOf}
 use Rattle.model.specs.Laws.Tests.{contra, dec, not-of}
-use Rattle.model.specs.Laws.Lists.{keep-at, keep-in}
+use Rattle.model.specs.Laws.Lists.{below-lt, flat-ext, keep-at, keep-in}
 use Rattle.model.specs.Laws.Parts.{same-eq, same-refl}
 use Rattle.model.specs.Laws.Once.{Once, none-once, one-more, keep-once}
 
@@ -54,3 +56,11 @@ comings-once (p ∷ ps) =
     one-more
     (λ m. contra (same-refl p) (not-true (samePart p p) (keep-at (λ r. not (samePart r p)) (firstComings ps) m .1)))
     (keep-once (λ r. not (samePart r p)) (comings-once ps))
+
+-- ---- the phase of other paths
+
+-- the buses above n have no say
+pub closing-paths : (n : ℕ) (old : PartCommands) (f g : ℕ → Option Path) → ((b : ℕ) → b < n → f b ≡ g b) → closing n old f ≡ closing n old g
+unfolding closing sequence
+closing-paths n old f g same =
+    ap (λ ps. keep (λ p. not (old p)) (firstComings ps)) (flat-ext _ _ (below n) (λ b m. ap (partsOf n) (same b (below-lt n b m))))

@@ -1,6 +1,6 @@
 -- Document 02, Note 4: the parts of the closing phase are those whose command changes to on or closed, each once; they are as before in
 -- another order, and a sheet has at most 122 bytes. Parts above n are not read.
-use mathlib.Core.Path.{_≡_, refl, ap, ap₂}
+use mathlib.Core.Path.{_≡_, refl, _∙_, ap₂}
 use mathlib.Core.Bool.{Bool, true, false, not, _&&_}
 use mathlib.Core.Logic.{_⊎_, inl, inr, _≢_, _↔_}
 use mathlib.Core.List.{
@@ -26,10 +26,10 @@ use Rattle.model.specs.Priority.{Path, pathParts}
 use Rattle.model.specs.Choosing.{addPath, chosen, plan, commands}
 use Rattle.model.specs.Sheet.{opening, firstComings, partsOf, sequence, closing, sheetOf, sheet}
 use Rattle.model.specs.Laws.Tests.{contra, and-left, and-right, and-intro, not-of, dec-eq}
-use Rattle.model.specs.Laws.Lists.{below-in, below-lt, flat-in, flat-at, flat-ext, keep-at, keep-in, keep-ext, keep-apart, rising-keep}
+use Rattle.model.specs.Laws.Lists.{below-in, below-lt, flat-in, flat-at, keep-at, keep-in, keep-ext, keep-apart, rising-keep}
 use Rattle.model.specs.Laws.Parts.{parts-in, parts-at, parts-rise, parts-length}
 use Rattle.model.specs.Laws.Once.{Once, keep-once, rising-once, once-perm, perm-length}
-use Rattle.model.specs.Laws.Sheet.{sheetOf-length, closingByCode, comings-at, comings-in, comings-once}
+use Rattle.model.specs.Laws.Sheet.{sheetOf-length, closingByCode, comings-at, comings-in, comings-once, closing-paths}
 use Rattle.theory.specs.Proofs.Choosing.{on-in}
 use Rattle.theory.specs.Theorems.Feeds.{commanded-at}
 use Rattle.theory.specs.Theorems.Locality.{Agree, plan-ext, commands-ext, commanded-in-ring, opening-ext}
@@ -153,16 +153,12 @@ module _ (n : ℕ) (H : PartHealth) (old : PartCommands) where
 -- ---- parts above n are not read
 
 module _ (n : ℕ) (C D : PartCommands) (H K : PartHealth) (olds : Agree n C D) (same : Agree n H K) where
-  sequence-ext : sequence n (plan n H) ≡ sequence n (plan n K)
-  unfolding sequence
-  sequence-ext = ap firstComings (flat-ext _ _ (below n) (λ b m. ap (partsOf n) (plan-ext n H K same b (below-lt n b m))))
-
   pub closing-ext : closing n C (plan n H) ≡ closing n D (plan n K)
   unfolding closing
   closing-ext =
-      rw sequence-ext
-      (keep-ext (λ p. not (C p)) (λ p. not (D p)) (sequence n (plan n K))
-      (λ p m. rw (olds p (commanded-in-ring n K p (sequence-exactly n K p .0 m)))))
+      closing-paths n C (plan n H) (plan n K) (plan-ext n H K same)
+      ∙ keep-ext (λ p. not (C p)) (λ p. not (D p)) (sequence n (plan n K))
+      (λ p m. rw (olds p (commanded-in-ring n K p (sequence-exactly n K p .0 m))))
 
   pub sheet-ext : sheet n C H ≡ sheet n D K
   unfolding sheet
