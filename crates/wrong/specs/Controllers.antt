@@ -31,7 +31,7 @@ use Rattle.model.specs.Choosing.{
   commands,
   choiceOf,
 }
-use Rattle.model.specs.Sheet.{written, opening, closing, sheetOf, sheet}
+use Rattle.model.specs.Sheet.{written, opening, firstComings, partsOf, sequence, closing, sheetOf, sheet}
 use Rattle.model.specs.Reports.{
   allFit,
   blankRing,
@@ -167,6 +167,15 @@ use Rattle.wrong.specs.Designs.{
   stuckClosedOpen,
   breakerBehind,
   highFirst,
+  closesByCode,
+  closesInward,
+  listsTwice,
+  listsStanding,
+  busesBackwards,
+  partsBy,
+  rightOrder,
+  walking,
+  ordering,
   designCommands,
   designSheet,
   designChoices,
@@ -221,6 +230,13 @@ generator1Fit = report (Generator 1) Fit
 
 abbrev generator3Fit : Report
 generator3Fit = report (Generator 3) Fit
+
+-- G2 fit again; BB1 stuck open
+abbrev generator2Fit : Report
+generator2Fit = report (Generator 2) Fit
+
+abbrev breaker1Open : Report
+breaker1Open = report (BusBreaker 1) StuckOpen
 
 -- G4 stuck off, a part that no ring of three has
 abbrev generator4Off : Report
@@ -296,7 +312,7 @@ startWrites k l os = startServing (withBuffer (sheetWith k l os))
 
 -- the orders of a start at n = 3, and BB1 closed and opened behind them: closed, it joins G1 to G2
 abbrev joining : List (ℕ × ℕ)
-joining = (0, 1) ∷ (1, 1) ∷ (32, 1) ∷ (33, 1) ∷ (65, 1) ∷ (64, 1) ∷ (64, 0) ∷ []
+joining = (0, 1) ∷ (32, 1) ∷ (1, 1) ∷ (33, 1) ∷ (65, 1) ∷ (64, 1) ∷ (64, 0) ∷ []
 
 unfoldable pub stepWrites : ℕ → ℕ → List (ℕ × ℕ) → Controller
 stepWrites k l os = stepServing (withBuffer (sheetWith k l os))
@@ -480,10 +496,10 @@ unfoldable pub leavesOrders : Controller
 leavesOrders =
     stepSpoilt (λ ring r buffer reply.
     let old = commandsOf (ring .commands) in
-    let new = planned (told ring r) in
-    cond (isReturn r) (servedReply (told ring r) buffer)
-    (withRing (λ next. record { n = next .n; health = next .health; commands = commandPlaces (λ p. old p || new p) })
-    (withBuffer (λ bytes. written (sheetOf [] (closing (ring .n) old new)) bytes) reply)))
+    let next = told ring r in
+    cond (isReturn r) (servedReply next buffer)
+    (withRing (λ a. record { n = a .n; health = a .health; commands = commandPlaces (λ p. old p || planned next p) })
+    (withBuffer (λ bytes. written (sheetOf [] (closing (ring .n) old (plan (ring .n) (healthOf (next .health))))) bytes) reply)))
 
 -- shows the choices of a ring of three without faults, or none
 unfoldable pub fitChoices : Reply → Reply
@@ -530,8 +546,8 @@ wrongStarts =
     ∷ row (startServing (withBuffer lastByte)) claim.start-behind-kept (starting 3 fullRoom)
     ∷ row (startServing (withBuffer oneMore)) claim.start-length-kept (starting 3 fullRoom)
     ∷ row (startServing noChoices) claim.start-chosen (starting 3 fullRoom)
-    ∷ row (startWrites 5 0 ((0, 1) ∷ (1, 1) ∷ (32, 1) ∷ (33, 1) ∷ (65, 1) ∷ [])) claim.start-first (starting 3 fullRoom)
-    ∷ row (startWrites 0 5 ((65, 1) ∷ (1, 1) ∷ (32, 1) ∷ (33, 1) ∷ (0, 1) ∷ [])) claim.start-second (starting 3 fullRoom)
+    ∷ row (startWrites 5 0 ((0, 1) ∷ (32, 1) ∷ (1, 1) ∷ (33, 1) ∷ (65, 1) ∷ [])) claim.start-first (starting 3 fullRoom)
+    ∷ row (startWrites 0 5 ((65, 1) ∷ (32, 1) ∷ (1, 1) ∷ (33, 1) ∷ (0, 1) ∷ [])) claim.start-second (starting 3 fullRoom)
     ∷ row (startWrites 0 1 ((99, 1) ∷ [])) claim.ends (starting 3 fullRoom)
     ∷ row (startWrites 7 0 joining) claim.clash-in-start-first (halted 6 (starting 3 fullRoom))
     ∷ row (startWrites 0 7 joining) claim.clash-in-start-second (halted 6 (starting 3 fullRoom))
@@ -648,10 +664,29 @@ wrongReturns =
     ∷ row leavesOrders claim.clash-in-first (halted 0 (after (generator1Off ∷ []) generator1Fit))
     ∷ []
 
+-- all generators have failed, behind BB1 stuck open; the last first
+abbrev allFailed : List Report
+allFailed = generator3Off ∷ generator2Off ∷ generator1Off ∷ breaker1Open ∷ []
+
+-- the closing phase in another order: G3 closes G3, GB3, BB3 for B1 and then BB2 for B2; past BB1 stuck open G2 closes BB2 and BB3 for B1
+unfoldable pub wrongOrders : List Row3
+wrongOrders =
+    row (designController closesByCode) claim.start-second (starting 3 fullRoom)
+    ∷ row (designController closesByCode) claim.second-is (after (generator3Off ∷ generator2Off ∷ generator1Off ∷ []) generator3Fit)
+    ∷ row (designController closesInward) claim.second-is (after allFailed generator2Fit)
+    ∷ row (designController listsTwice) claim.second-is (after allFailed generator2Fit)
+    ∷ row (designController listsStanding) claim.second-is (after [] breaker2Open)
+    ∷ row (designController busesBackwards) claim.second-is (after (generator3Off ∷ generator2Off ∷ generator1Off ∷ []) generator3Fit)
+    ∷ row (designController busesBackwards) claim.start-second (starting 3 fullRoom)
+    ∷ row (designController closesByCode) claim.second-is
+    (calling (nothing then step generator1Off fullRoom then step generator2Off fullRoom then step generator3Off fullRoom)
+    (scan (scanOf (generator3Fit ∷ [])) fullRoom))
+    ∷ []
+
 unfoldable pub wrongs3 : List Row3
 wrongs3 =
     wrongDesigns
-    ++ (wrongStarts ++ (wrongRefusals ++ (wrongSteps ++ (wrongMoments ++ (wrongScanRefusals ++ (wrongScans ++ wrongReturns))))))
+    ++ (wrongStarts ++ (wrongRefusals ++ (wrongSteps ++ (wrongMoments ++ (wrongScanRefusals ++ (wrongScans ++ (wrongReturns ++ wrongOrders)))))))
 
 -- the wrong controller fails the claim
 unfoldable pub refuted3 : Row3 → Bool
@@ -684,8 +719,13 @@ wrongs2 =
     ∷ row2 (stepWrites 1 2 ((65, 0) ∷ (64, 1) ∷ (66, 1) ∷ [])) claim.closes (after [] breaker2Open)
     ∷ row2 (stepWrites 1 0 ((65, 0) ∷ [])) claim.all-close (after [] breaker2Open)
     ∷ row2 (stepWrites 3 2 ((65, 0) ∷ (33, 0) ∷ (1, 0) ∷ (64, 1) ∷ (66, 1) ∷ [])) claim.opens-rising (after [] breaker1Closed)
-    ∷ row2 (stepWrites 3 2 ((1, 0) ∷ (33, 0) ∷ (65, 0) ∷ (66, 1) ∷ (64, 1) ∷ [])) claim.closes-rising (after [] breaker1Closed)
+    ∷ row2 (stepWrites 3 2 ((1, 0) ∷ (33, 0) ∷ (65, 0) ∷ (66, 1) ∷ (64, 1) ∷ [])) claim.closes-outward (after [] breaker1Closed)
     ∷ row2 (stepWrites 1 0 ((65, 0) ∷ [])) claim.brings-about (after [] breaker2Open)
+    ∷ row2 (designController closesByCode) claim.closes-outward (after (generator3Off ∷ generator2Off ∷ generator1Off ∷ []) generator3Fit)
+    ∷ row2 (designController closesInward) claim.closes-outward (after allFailed generator2Fit)
+    ∷ row2 (designController listsTwice) claim.closes-outward (after allFailed generator2Fit)
+    ∷ row2 (designController listsStanding) claim.closes-outward (after [] breaker2Open)
+    ∷ row2 (designController busesBackwards) claim.closes-outward (after (generator3Off ∷ generator2Off ∷ generator1Off ∷ []) generator3Fit)
     ∷ []
 
 unfoldable pub refuted2 : Row2 → Bool
@@ -732,7 +772,7 @@ record Computed : Type 0 where
 computed : Computed
 unfolding below keep first anyOf allOf partCode samePart parts healthOfKind next up arc connected feeds feeders feedBy busFeed others
     sources pathBusBreakers pathBreakers pathParts highRises pathsFrom paths onPaths usable countedClosed isolated permitted choose
-    addPath chosen plan commands choiceOf choices opening closing sheetOf sheet written partNamed reported places healthOf commandsOf
+    addPath chosen plan commands choiceOf choices opening firstComings partsOf sequence closing sheetOf sheet written partNamed reported places healthOf commandsOf
     healthPlaces commandPlaces blankRing told planned withPlan firstMet sizeOutside notOfRing wordOfOtherKind tooShort
     healthOutside activeAbove unplanned badRecord nextSheet reportConditions startRefusal stepRefusal allDark refusedAnswer refusedReply
     servedAnswer servedReply startReply stepReply afterWord afterWords perform performAll commandNamed withOperation operations phasesAt
@@ -750,7 +790,7 @@ unfolding below keep first anyOf allOf partCode samePart parts healthOfKind next
     scanOf countedAs calling scanning scanRefusing scanServing scanWrites scanTelling scanServingBy lastOf backwards beforeLast
     takesLastWord sendsLastSheet takesWordsBackwards readsPastCount servesScans refuses64 refusesByLast asksFirstStep wrongScanRefusals
     wrongScans goodFront servesBeforeBad returnOf refusesReturns refusesReturnsInScans keepsOff keepsOffInScans passesReturned leavesOrders
-    wrongReturns quietWhileOff
+    wrongReturns quietWhileOff partsBy rightOrder walking ordering closesByCode closesInward listsTwice listsStanding busesBackwards wrongOrders
 computed = record {
   refuted-3 = refl;
   refuted-2 = refl;

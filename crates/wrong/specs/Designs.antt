@@ -1,9 +1,9 @@
 -- Wrong controllers: designs that choose, command or write otherwise than document 01, and the right controller spoilt in one reply.
 -- A design refuses as the controller does, by its own commands and sheets; the right design is the controller.
-use mathlib.Core.Path.{_≡_}
-use mathlib.Core.Bool.{Bool, not, _&&_, _||_, cond, Bool·beq}
-use mathlib.Core.List.{List, [], _∷_, _++_, map}
-use mathlib.Core.Option.{Option, none}
+use mathlib.Core.Path.{_≡_, refl, ap}
+use mathlib.Core.Bool.{Bool, not, _&&_, cond, Bool·beq}
+use mathlib.Core.List.{List, [], _∷_, _++_, map, flatMap, reverse}
+use mathlib.Core.Option.{Option, none, some}
 use Prim.Native.Nat.{ℕ, zero, suc, _+_}
 use lib.Dec.{ltb, eqb}
 use lib.ListN.{length, take, drop}
@@ -16,12 +16,12 @@ use Rattle.model.specs.declared.Ring.{Ring}
 use Rattle.model.specs.declared.Outcome.the-variants as outcome
 use Rattle.model.specs.declared.Choice.the-variants as choice
 use Rattle.model.specs.declared.BusChoice.{BusChoice}
-use Rattle.model.specs.Lists.{first, anyOf}
+use Rattle.model.specs.Lists.{below, keep, first, anyOf}
 use Rattle.model.specs.Values.{samePart, partCode}
-use Rattle.model.specs.Plant.{PartHealth, PartCommands, largest, busBreaker, parts, stuckClosed}
-use Rattle.model.specs.Priority.{Path, sources, highPath, lowPath, paths}
+use Rattle.model.specs.Plant.{PartHealth, PartCommands, largest, generator, generatorBreaker, busBreaker, parts, stuckClosed}
+use Rattle.model.specs.Priority.{Path, sources, pathBusBreakers, pathParts, highPath, lowPath, paths}
 use Rattle.model.specs.Choosing.{onPaths, permitted, addPath, plan, commands, choiceOf, choices}
-use Rattle.model.specs.Sheet.{opening, closing, sheetOf, sheet, written}
+use Rattle.model.specs.Sheet.{opening, firstComings, partsOf, sequence, closing, sheetOf, sheet, written}
 use Rattle.model.specs.Reports.{reported, allFit, places, healthOf, commandsOf, commandPlaces, blankRing, told, planned, withPlan}
 use Rattle.model.specs.Refusals.{
   firstMet,
@@ -41,6 +41,7 @@ use Rattle.model.specs.Refusals.{
 }
 use Rattle.model.specs.Answers.{Reply, refusedReply, servedAnswer, servedReply, startReply, stepReply}
 use Rattle.model.specs.Scans.{scanReports, toldAll, firstRefusal, scanRefusal, scanReply}
+use Rattle.model.specs.Laws.Lists.{flat-ext}
 use Rattle.demands.specs.Statements.Demand3.{Controller, isServed}
 use Rattle.demands.specs.Controller.{controller}
 use Rattle.demands.specs.Statements.Demand2.{earlier}
@@ -48,21 +49,34 @@ use Rattle.demands.specs.Theorems.Demand2.{earlier-chosen}
 
 -- ---- a controller made of a design
 
--- how a controller chooses paths, which parts it commands on or closed for them, and how it writes its sheet
+-- how a controller chooses paths, which parts it commands on or closed for each and in which sequence, how it goes through the buses'
+-- sequences when it closes, past the commands that stand, and how it writes its sheet
 pub record Design : Type 0 where
   pub paths-of : ℕ → PartHealth → ℕ → Option Path
-  pub parts-of : ℕ → List Path → PartCommands
+  pub parts-of : ℕ → Path → List Part
+  pub order-of : ℕ → PartCommands → (ℕ → List Part) → List Part
   pub sheet-of : List Part → List Part → List ℕ
 
+-- the parts of a bus's path by a rule; a dark bus has none
+unfoldable pub partsBy : (Path → List Part) → Option Path → List Part
+partsBy f none = []
+partsBy f (some w) = f w
+
 module _ (d : Design) where
+  -- each bus's path
+  abbrev designPath : Ring → ℕ → Option Path
+  designPath ring = d .paths-of (ring .n) (healthOf (ring .health))
+
   -- the commands that a ring's health calls for, and the sheet that leads to them
   unfoldable pub designCommands : Ring → PartCommands
-  designCommands ring = d .parts-of (ring .n) (earlier (d .paths-of (ring .n) (healthOf (ring .health))) (ring .n))
+  designCommands ring p = anyOf (λ w. anyOf (samePart p) (d .parts-of (ring .n) w)) (earlier (designPath ring) (ring .n))
 
   unfoldable pub designSheet : Ring → List ℕ
   designSheet ring =
       let old = commandsOf (ring .commands) in
-      d .sheet-of (opening (ring .n) old (designCommands ring)) (closing (ring .n) old (designCommands ring))
+      d .sheet-of
+      (opening (ring .n) old (designCommands ring))
+      (d .order-of (ring .n) old (λ b. partsBy (d .parts-of (ring .n)) (designPath ring b)))
 
   unfoldable pub designChoices : Ring → List BusChoice
   designChoices ring =
@@ -114,17 +128,30 @@ module _ (d : Design) where
   unfoldable pub designController : Controller
   designController = record { start = designStart; step = designStep; scan = designScan }
 
--- the design of document 01
+-- "a part only where it first comes", of those that do not stand commanded, bus by bus
+unfoldable pub rightOrder : ℕ → PartCommands → (ℕ → List Part) → List Part
+rightOrder n old each = keep (λ p. not (old p)) (firstComings (flatMap each (below n)))
+
+-- the design of documents 01 and 02
 unfoldable pub right : Design
-right = record { paths-of = plan; parts-of = onPaths; sheet-of = sheetOf }
+right = record { paths-of = plan; parts-of = pathParts; order-of = rightOrder; sheet-of = sheetOf }
 
 right-commands : (ring : Ring) → designCommands right ring ≡ planned ring
-unfolding designCommands right planned commands
-right-commands ring = rw (earlier-chosen (ring .n) (healthOf (ring .health)) (ring .n))
+unfolding designCommands right planned commands onPaths
+right-commands ring = ap (onPaths (ring .n)) (earlier-chosen (ring .n) (healthOf (ring .health)) (ring .n))
+
+right-parts : (n : ℕ) (o : Option Path) → partsBy (pathParts n) o ≡ partsOf n o
+unfolding partsBy partsOf
+right-parts n none = refl
+right-parts n (some w) = refl
 
 right-sheet : (ring : Ring) → designSheet right ring ≡ nextSheet ring
-unfolding designSheet right nextSheet sheet
-right-sheet ring = rw (right-commands ring)
+unfolding designSheet right rightOrder nextSheet sheet closing sequence planned
+right-sheet ring =
+    let H = healthOf (ring .health) in
+    rw (right-commands ring)
+    (ap (λ ps. sheetOf (opening (ring .n) (commandsOf (ring .commands)) (planned ring)) (keep (λ p. not (commandsOf (ring .commands) p)) (firstComings ps)))
+    (flat-ext _ _ (below (ring .n)) (λ b m. right-parts (ring .n) (plan (ring .n) H b))))
 
 right-served : (ring : Ring) (buffer : List ℕ) → designServed right ring buffer ≡ servedReply ring buffer
 unfolding designServed designChoices right servedReply servedAnswer withPlan choices places
@@ -166,21 +193,30 @@ chosenBy tries n H (suc k) = let ws = chosenBy tries n H k in addPath (first (pe
 unfoldable pub trying : (ℕ → ℕ → List Path) → Design
 trying tries = record {
   paths-of = λ n H b. first (permitted n H (chosenBy tries n H b)) (tries n b);
-  parts-of = onPaths;
+  parts-of = pathParts;
+  order-of = rightOrder;
   sheet-of = sheetOf;
 }
 
 -- the right design, planning for another health
 unfoldable pub planningFor : (ℕ → PartHealth → PartHealth) → Design
-planningFor f = record { paths-of = λ n H. plan n (f n H); parts-of = onPaths; sheet-of = sheetOf }
+planningFor f = record { paths-of = λ n H. plan n (f n H); parts-of = pathParts; order-of = rightOrder; sheet-of = sheetOf }
 
 -- the right design with another sheet
 unfoldable pub writing : (List Part → List Part → List ℕ) → Design
-writing f = record { paths-of = plan; parts-of = onPaths; sheet-of = f }
+writing f = record { paths-of = plan; parts-of = pathParts; order-of = rightOrder; sheet-of = f }
+
+-- the right design with other parts of a path, or another sequence of them
+unfoldable pub walking : (ℕ → Path → List Part) → Design
+walking f = record { paths-of = plan; parts-of = f; order-of = rightOrder; sheet-of = sheetOf }
+
+-- the right design with another order of what closes
+unfoldable pub ordering : (ℕ → PartCommands → (ℕ → List Part) → List Part) → Design
+ordering f = record { paths-of = plan; parts-of = pathParts; order-of = f; sheet-of = sheetOf }
 
 -- "a controller that leaves every bus dark"
 unfoldable pub allBusesDark : Design
-allBusesDark = record { paths-of = λ n H b. none; parts-of = onPaths; sheet-of = sheetOf }
+allBusesDark = record { paths-of = λ n H b. none; parts-of = pathParts; order-of = rightOrder; sheet-of = sheetOf }
 
 -- "or finds no way before trying one"
 unfoldable pub givesUp : Design
@@ -222,15 +258,34 @@ stuckClosedOpen = planningFor (λ n H p. cond (stuckClosed (H p)) 0 (H p))
 
 -- "A way that takes in the breaker behind its end bus": a rising path from another generator takes the breaker after its bus
 unfoldable pub breakerBehind : Design
-breakerBehind = record {
-  paths-of = plan;
-  parts-of = λ n ws p. onPaths n ws p || anyOf (λ w. w .rising && (not (eqb (w .source) (w .bus)) && samePart p (busBreaker (w .bus)))) ws;
-  sheet-of = sheetOf;
-}
+breakerBehind =
+    walking (λ n w. pathParts n w ++ cond (w .rising && not (eqb (w .source) (w .bus))) (busBreaker (w .bus) ∷ []) [])
 
 -- "High ways of all generators before low ones"
 unfoldable pub highFirst : Design
 highFirst = trying (λ n b. map (λ g. highPath n b g) (sources n b) ++ map (λ g. lowPath n b g) (sources n b))
+
+-- ---- the closing phase in another order than Note 4's
+
+-- in rising code, as document 01 had it
+unfoldable pub closesByCode : Design
+closesByCode = ordering (λ n old each. keep (λ p. not (old p) && anyOf (samePart p) (flatMap each (below n))) (parts n))
+
+-- bus breakers from the bus back to the generator
+unfoldable pub closesInward : Design
+closesInward = walking (λ n w. generator (w .source) ∷ generatorBreaker (w .source) ∷ map busBreaker (reverse (pathBusBreakers n w)))
+
+-- a part that two paths share, twice
+unfoldable pub listsTwice : Design
+listsTwice = ordering (λ n old each. keep (λ p. not (old p)) (flatMap each (below n)))
+
+-- a part that stands commanded, again
+unfoldable pub listsStanding : Design
+listsStanding = ordering (λ n old each. firstComings (flatMap each (below n)))
+
+-- buses in falling order
+unfoldable pub busesBackwards : Design
+busesBackwards = ordering (λ n old each. keep (λ p. not (old p)) (firstComings (flatMap each (reverse (below n)))))
 
 -- ---- the controller, spoilt in its replies to starts, to steps or to scans
 
