@@ -18,20 +18,21 @@ use Rattle.model.specs.declared.Choice.the-variants.{Dark}
 use Rattle.model.specs.Values.{outcomeNumber}
 use Rattle.model.specs.Plant.{PartHealth, smallest, largest}
 use Rattle.model.specs.Priority.{Path}
-use Rattle.model.specs.Choosing.{choices, choiceOf, chosen, plan}
+use Rattle.model.specs.Choosing.{chosen, plan, commands, choiceOf, choices}
 use Rattle.model.specs.Sheet.{opening, closing, sheet, written}
-use Rattle.model.specs.Reports.{healthOf, commandsOf, blankRing, told, planned, withPlan}
+use Rattle.model.specs.Reports.{healthOf, commandsOf, blankRing, told, withPlan}
 use Rattle.model.specs.Refusals.{firstMet, tooShort, badRecord, nextSheet, reportConditions, startRefusal, stepRefusal}
 use Rattle.model.specs.Answers.{Reply, refusedAnswer, refusedReply, servedAnswer, servedReply, startReply, stepReply}
 use Rattle.model.specs.Text.{transitionLine, refusedText}
 use Rattle.model.specs.Scans.{scanReports, toldAll, scanRefusal, scanReply}
 use Rattle.model.specs.ScanText.{sheetRoom, scanText, scanState}
-use Rattle.model.specs.Laws.Sheet.{sheet-fits, sheetOf-length}
+use Rattle.model.specs.Laws.Sheet.{sheetOf-length}
 use Rattle.model.specs.Laws.Refusals.{inside, good-size, served-refused}
 use Rattle.model.specs.Laws.Scans.{told-size}
 use Rattle.model.specs.Laws.Choosing.{choices-at, choice-source}
 use Rattle.theory.specs.Proofs.Choosing.{chosen-ends}
-use Rattle.demands.specs.Proofs.Operations.{opening-at, closing-at}
+use Rattle.theory.specs.Theorems.Closing.{closing-at, sheet-fits}
+use Rattle.demands.specs.Proofs.Operations.{opening-at}
 use Rattle.demands.specs.Statements.Records.{started}
 use Rattle.demands.specs.Statements.Demand3.{step, scan}
 use Rattle.demands.specs.Theorems.Records.{call-good, made-good}
@@ -61,14 +62,14 @@ pub record Given (ring : Ring) (a : RingAnswer) (after : List ℕ) : Type 0 wher
 
 module _ (ring : Ring) (small : ring .n ≤ largest) (buffer : List ℕ) where
   abbrev xs : List Part
-  xs = opening (ring .n) (commandsOf (ring .commands)) (planned ring)
+  xs = opening (ring .n) (commandsOf (ring .commands)) (commands (ring .n) (healthOf (ring .health)))
 
   abbrev ys : List Part
-  ys = closing (ring .n) (commandsOf (ring .commands)) (planned ring)
+  ys = closing (ring .n) (commandsOf (ring .commands)) (plan (ring .n) (healthOf (ring .health)))
 
   few : length xs + length ys ≤ 3 * largest
   unfolding sheet
-  few = omega (arith, sheetOf-length xs ys, sheet-fits (ring .n) (commandsOf (ring .commands)) (planned ring) small)
+  few = omega (arith, sheetOf-length xs ys, sheet-fits (ring .n) (healthOf (ring .health)) (commandsOf (ring .commands)) small)
 
   transition-sheet : SheetBytes (written (nextSheet ring) buffer)
   unfolding nextSheet sheet
@@ -79,8 +80,8 @@ module _ (ring : Ring) (small : ring .n ≤ largest) (buffer : List ℕ) where
   unfolding nextSheet sheet transitionLine
   transition-line i =
       sheet-line xs ys buffer i (ring .n) (choices (ring .n) (healthOf (ring .health))) small
-      (λ p m. opening-at (ring .n) (commandsOf (ring .commands)) (planned ring) p m .0)
-      (λ p m. closing-at (ring .n) (commandsOf (ring .commands)) (planned ring) p m .0)
+      (λ p m. opening-at (ring .n) (commandsOf (ring .commands)) (commands (ring .n) (healthOf (ring .health))) p m .0)
+      (λ p m. closing-at (ring .n) (healthOf (ring .health)) (commandsOf (ring .commands)) p m .0)
 
   -- a call whose reply is served gives it
   served-given : {reply : Reply} → reply ≡ servedReply ring buffer
@@ -110,7 +111,7 @@ room-enough : (ring : Ring) → ring .n ≤ largest → (buffer : List ℕ) → 
     → tooShort (length buffer) (nextSheet ring) ≡ false
 unfolding tooShort nextSheet
 room-enough ring small buffer enough =
-    le-ltb (length buffer) _ (omega (arith, sheet-fits (ring .n) (commandsOf (ring .commands)) (planned ring) small))
+    le-ltb (length buffer) _ (omega (arith, sheet-fits (ring .n) (healthOf (ring .health)) (commandsOf (ring .commands)) small))
 
 start-serves : (n : ℕ) → smallest ≤ n → n ≤ largest → (buffer : List ℕ) → 122 ≤ length buffer
     → startReply n buffer ≡ servedReply (blankRing n) buffer
