@@ -2,5 +2,6 @@
 -- Nothing is proved here.
 pub mod Priorities
 pub mod Settled
+pub mod Outward
 pub mod CutSets
 pub mod Numbers

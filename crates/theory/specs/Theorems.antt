@@ -7,5 +7,6 @@ pub mod Locality
 pub mod Closing
 pub mod Priorities
 pub mod Settled
+pub mod Outward
 pub mod CutSets
 pub mod Numbers

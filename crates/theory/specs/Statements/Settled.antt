@@ -24,19 +24,19 @@ pub record Position : Type 0 where
   pub expected : List Choice
 
 -- "G1 off"
-abbrev generatorOff : ℕ → Report
+abbrev pub generatorOff : ℕ → Report
 generatorOff g = record { part = Generator g; word = StuckOff }
 
 -- "GB2 open"
-abbrev generatorBreakerOpen : ℕ → Report
+abbrev pub generatorBreakerOpen : ℕ → Report
 generatorBreakerOpen g = record { part = GeneratorBreaker g; word = StuckOpen }
 
 -- "BB2 open"
-abbrev busBreakerOpen : ℕ → Report
+abbrev pub busBreakerOpen : ℕ → Report
 busBreakerOpen i = record { part = BusBreaker i; word = StuckOpen }
 
 -- "BB1 closed"
-abbrev busBreakerClosed : ℕ → Report
+abbrev pub busBreakerClosed : ℕ → Report
 busBreakerClosed i = record { part = BusBreaker i; word = StuckClosed }
 
 -- a position of the list

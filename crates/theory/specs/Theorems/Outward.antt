@@ -1,0 +1,87 @@
+-- The closing phases of the table are the definitions', and so is the printed run of document 01 with Note 4's line 0.
+use mathlib.Core.Path.{_≡_, refl}
+use mathlib.Core.List.{map, flatMap}
+use Rattle.model.specs.Lists.{below, keep, first, anyOf, allOf}
+use Rattle.model.specs.Values.{partCode, samePart}
+use Rattle.model.specs.Plant.{parts, next, up, arc, connected}
+use Rattle.model.specs.Priority.{others, sources, pathBusBreakers, pathBreakers, pathParts, highRises, pathsFrom, paths}
+use Rattle.model.specs.Choosing.{
+  onPaths,
+  usable,
+  countedClosed,
+  isolated,
+  permitted,
+  choose,
+  addPath,
+  chosen,
+  plan,
+  commands,
+  choiceOf,
+  choices,
+}
+use Rattle.model.specs.Sheet.{opening, firstComings, partsOf, sequence, closing}
+use Rattle.model.specs.Reports.{
+  partNamed,
+  wordNamed,
+  reported,
+  places,
+  healthOf,
+  commandsOf,
+  healthPlaces,
+  commandPlaces,
+  blankRing,
+  told,
+  planned,
+  withPlan,
+}
+use Rattle.model.specs.Refusals.{
+  firstMet,
+  sizeOutside,
+  notOfRing,
+  wordOfOtherKind,
+  reportConditions,
+  reportOf,
+  reportAnswer,
+  reportRefusal,
+  reportsRefusal,
+  fileRefusal,
+}
+use Rattle.model.specs.Answers.{reportAt}
+use Rattle.model.specs.Text.{
+  ascii,
+  digits,
+  decimal,
+  spaced,
+  kindName,
+  choiceText,
+  busText,
+  phaseText,
+  line,
+  transitionLine,
+  header,
+  toldAnswer,
+  runRing,
+  servedLines,
+  runLines,
+  joined,
+  printedRun,
+}
+use Rattle.theory.specs.Statements.Settled.{healthAfter}
+use Rattle.theory.specs.Statements.Outward.{Wave, outwardWaves, closes, exampleFile, exampleRun}
+
+-- document 02, Note 4: the table
+pub outward-waves : map closes outwardWaves ≡ map (λ (w : Wave). w .expected) outwardWaves
+unfolding outwardWaves closes closing sequence partsOf firstComings commands healthAfter reported plan chosen addPath choose permitted
+    isolated countedClosed usable onPaths paths pathsFrom highRises pathParts pathBreakers pathBusBreakers sources others flatMap connected
+    arc up next samePart allOf anyOf first keep below
+outward-waves = refl
+
+-- "Input `3 1 0 65 2` prints, whole", with line 0 of Note 4
+pub example-run : printedRun exampleFile ≡ ascii exampleRun
+unfolding exampleFile exampleRun printedRun joined runLines servedLines runRing toldAnswer header transitionLine line phaseText busText
+    choiceText kindName spaced decimal digits ascii reportAt fileRefusal reportsRefusal reportRefusal reportAnswer reportOf
+    reportConditions wordOfOtherKind notOfRing sizeOutside firstMet withPlan planned told blankRing commandPlaces healthPlaces commandsOf
+    healthOf places reported wordNamed partNamed closing sequence partsOf firstComings opening choices choiceOf commands plan chosen
+    addPath choose permitted isolated countedClosed usable onPaths paths pathsFrom highRises pathParts pathBreakers pathBusBreakers sources
+    others flatMap connected arc up next parts partCode samePart allOf anyOf first keep below
+example-run = refl
