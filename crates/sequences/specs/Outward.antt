@@ -2,7 +2,7 @@
 use mathlib.Core.Path.{_≡_, refl, sym, _∙_, ap}
 use mathlib.Core.Bool.{Bool, true, false, not, cond, Bool·beq}
 use mathlib.Core.Logic.{_⊎_, inl, inr, _≢_}
-use mathlib.Core.List.{List, [], _∷_, _++_, map, flatMap, map-append, map-map, append-assoc, append-nil}
+use mathlib.Core.List.{List, [], _∷_, _++_, map, flatMap, map-append, map-map, append-assoc, append-nil, List·Memᴰ·not-nil}
 use mathlib.Core.Option.{Option, none, some}
 use Prim.Native.Nat.{ℕ, zero, suc, _+_, _-_, _≤_, _<_}
 use Prim.Native.Char.{code}
@@ -18,19 +18,17 @@ use Rattle.model.specs.declared.Choice.the-variants.{Dark, Own, High, Low}
 use Rattle.model.specs.declared.BusChoice.{BusChoice}
 use Rattle.model.specs.Lists.{below, _∈_}
 use Rattle.model.specs.Values.{index, partCode, choiceSource, choiceLetter}
-use Rattle.model.specs.Plant.{PartHealth, PartCommands, largest, busBreaker}
+use Rattle.model.specs.Plant.{PartHealth, PartCommands, largest, busBreaker, InRing}
 use Rattle.model.specs.Priority.{Path, pathBusBreakers, pathBreakers, pathParts, highRises, paths}
 use Rattle.model.specs.Choosing.{permitted, choose, chosen, plan, choiceOf, choices}
 use Rattle.model.specs.Sheet.{partsOf, sequence, closing}
 use Rattle.model.specs.Laws.Tests.{contra}
-use Rattle.model.specs.Laws.Lists.{below-lt, flat-ext, flat-below, none-some, first-at}
+use Rattle.model.specs.Laws.Lists.{below-lt, flat-at, flat-below, none-some, first-at}
 use Rattle.model.specs.Laws.Choosing.{choice-source, choices-at}
 use Rattle.model.specs.Laws.Appended.{Appended, appended-none}
-use Rattle.model.specs.Laws.Sheet.{comings-in}
-use Rattle.theory.specs.Proofs.Paths.{pathTo, tried-own, tried-at}
+use Rattle.model.specs.Laws.Sheet.{closing-paths}
+use Rattle.theory.specs.Proofs.Paths.{Ends, path-in-ring, pathTo, tried-own, tried-at}
 use Rattle.theory.specs.Proofs.Choosing.{chosen-ends}
-use Rattle.theory.specs.Theorems.Locality.{commanded-in-ring}
-use Rattle.theory.specs.Theorems.Closing.{sequence-exactly, phases-fit}
 use Rattle.walks.specs.Walk.{breakerBeside, busBeside, outward, outward-path}
 use Rattle.paths.specs.Search.{spanOf}
 use Rattle.sequences.specs.Marks.{markAll, fresh, Listed, fresh-append, room-front, room-behind, Holds, fresh-comings}
@@ -58,9 +56,17 @@ pathCodes n o = map partCode (partsOf n o)
 abbrev pub choiceAt : List BusChoice → ℕ → Choice
 choiceAt cs b = getD cs b (record { choice = Dark }) .choice
 
--- the codes of the paths of the first k buses, as their choices name them
+-- each bus's path, as its choice names it
+abbrev pub namedPaths : ℕ → List BusChoice → ℕ → Option Path
+namedPaths n cs b = namedPath n b (choiceAt cs b)
+
+-- the choices of the first n buses name no generator, or one of the ring
+abbrev pub AllInside : ℕ → List BusChoice → Type 0
+AllInside n cs = (b : ℕ) → b < n → Inside n (choiceAt cs b)
+
+-- the codes of the paths of the first k buses
 unfoldable pub codesTo : ℕ → List BusChoice → ℕ → List ℕ
-codesTo n cs k = map partCode (flatMap (λ b. partsOf n (namedPath n b (choiceAt cs b))) (below k))
+codesTo n cs k = map partCode (flatMap (λ b. partsOf n (namedPaths n cs b)) (below k))
 
 -- ---- the codes of a path
 
@@ -106,17 +112,18 @@ pub index-is : (k : ℕ) → k - 1 ≡ index k
 index-is zero = omega arith
 index-is (suc k) = omega arith
 
-pub named-source : (n b : ℕ) (c : Choice) (w : Path) → Inside n c → some w ≡ namedPath n b c → w .source < n
-named-source n b c w i e = go c refl e
+-- its path lies in the ring
+pub named-ends : (n b : ℕ) (c : Choice) (w : Path) → Inside n c → b < n → some w ≡ namedPath n b c → Ends n w
+named-ends n b c w i hb e = go c refl e
   where
-    source : {v : Path} → some w ≡ some v → v .source < n → w .source < n
-    source {v} f l = let z : w ≡ v = cc in rw z l
+    is : {v : Path} → some w ≡ some v → Ends n v → Ends n w
+    is {v} f h = let z : w ≡ v = cc in rw z h
 
-    go : (d : Choice) → c ≡ d → some w ≡ namedPath n b d → w .source < n
+    go : (d : Choice) → c ≡ d → some w ≡ namedPath n b d → Ends n w
     go Dark d f = none-some refl (sym f)
-    go (Own k) d f = source f (omega (arith, index-is k, own-inside n k c i d))
-    go (High k) d f = source f (omega (arith, index-is k, high-inside n k c i d))
-    go (Low k) d f = source f (omega (arith, index-is k, low-inside n k c i d))
+    go (Own k) d f = is f (record { source = omega (arith, index-is k, own-inside n k c i d); bus = hb })
+    go (High k) d f = is f (record { source = omega (arith, index-is k, high-inside n k c i d); bus = hb })
+    go (Low k) d f = is f (record { source = omega (arith, index-is k, low-inside n k c i d); bus = hb })
 
 -- ---- the choices of a plan
 
@@ -133,7 +140,7 @@ beq-other false true e = refl
 beq-other false false e = contra refl e
 
 module _ (n : ℕ) (H : PartHealth) (small : n ≤ largest) where
-  pub plan-inside : (b : ℕ) → b < n → Inside n (choiceAt (choices n H) b)
+  pub plan-inside : AllInside n (choices n H)
   unfolding choiceOf plan
   plan-inside b hb = rw (choices-at n H b (record { choice = Dark }) hb small) (go (plan n H b) refl)
     where
@@ -166,22 +173,9 @@ module _ (n : ℕ) (H : PartHealth) (small : n ≤ largest) where
           let f = first-at (permitted n H (chosen n H b)) (paths n b) w e in
           own w (f .0) (tried-at n b w hb (f .0) .1) _ refl
 
-  -- the codes of the first k buses are those of their paths
-  codes-plan : (k : ℕ) → k ≤ n → codesTo n (choices n H) k ≡ map partCode (flatMap (λ b. partsOf n (plan n H b)) (below k))
-  unfolding codesTo
-  codes-plan k h =
-      ap (map partCode)
-      (flat-ext _ _ (below k) (λ b m. ap (partsOf n) (named-plan b (omega (arith, below-lt k b m)))))
-
-  -- what is listed of all of them, past the commands C, is the closing phase
-  pub all-listed : (l : List Bool) (C : PartCommands) → Holds l C
-      → fresh l (codesTo n (choices n H) n) ≡ map partCode (closing n C (plan n H))
-  unfolding closing sequence
-  all-listed l C h =
-      rw (codes-plan n (omega arith))
-      (fresh-comings (flatMap (λ b. partsOf n (plan n H b)) (below n)) l C h (λ p m.
-      let r = commanded-in-ring n H p (sequence-exactly n H p .0 (comings-in _ m)) in
-      (r .0, omega (arith, r .1))))
+  -- so the closing phase of its choices is that of its paths
+  pub closing-named : (C : PartCommands) → closing n C (namedPaths n (choices n H)) ≡ closing n C (plan n H)
+  closing-named C = closing-paths n C (namedPaths n (choices n H)) (plan n H) named-plan
 
 -- ---- bus by bus
 
@@ -190,16 +184,16 @@ module _ (n : ℕ) (cs : List BusChoice) where
   unfolding codesTo below flatMap
   codes-none = refl
 
-  pub codes-more : (b : ℕ) → codesTo n cs (b + 1) ≡ codesTo n cs b ++ pathCodes n (namedPath n b (choiceAt cs b))
+  pub codes-more : (b : ℕ) → codesTo n cs (b + 1) ≡ codesTo n cs b ++ pathCodes n (namedPaths n cs b)
   unfolding codesTo
-  codes-more b = rw (add-one b, flat-below (λ k. partsOf n (namedPath n k (choiceAt cs k))) b, map-append)
+  codes-more b = rw (add-one b, flat-below (λ k. partsOf n (namedPaths n cs k)) b, map-append)
 
   -- the codes of the first buses come first
   codes-front : (k j : ℕ) → (rest : List ℕ) × (codesTo n cs (k + j) ≡ codesTo n cs k ++ rest)
   codes-front k zero = ([], rw (add-zero k) (sym (append-nil (codesTo n cs k))))
   codes-front k (suc j) =
       let t = codes-front k j in
-      let more = pathCodes n (namedPath n (k + j) (choiceAt cs (k + j))) in
+      let more = pathCodes n (namedPaths n cs (k + j)) in
       let e : k + suc j ≡ k + j + 1 = omega arith in
       (t .0 ++ more, rw (e, codes-more (k + j), t .1) (append-assoc (codesTo n cs k) (t .0) more))
 
@@ -214,24 +208,35 @@ no-more xs [] e = append-nil xs
 no-more xs (y ∷ ys) e = absurd (omega (arith, length-append xs (y ∷ ys)))
 
 -- the codes of the first b buses are gone through, from the commands C on
-module _ (n : ℕ) (H : PartHealth) (small : n ≤ largest) (C : PartCommands) (count : ℕ) (counted : count ≡ length (closing n C (plan n H)))
-    (cs : List BusChoice) (chosen-are : cs ≡ choices n H) (l : List Bool) (holds : Holds l C) (b end : ℕ) (inside : b ≤ n)
+module _ (n : ℕ) (small : n ≤ largest) (C : PartCommands) (cs : List BusChoice) (names : AllInside n cs) (count : ℕ)
+    (counted : count ≡ length (closing n C (namedPaths n cs))) (fits : count ≤ 60) (l : List Bool) (holds : Holds l C) (b end : ℕ) (inside : b ≤ n)
     (codes codes′ : List ℕ) (l′ : List Bool) (listed : Listed (codesTo n cs b) l codes 0 l′ codes′ end) where
-  all-are : fresh l (codesTo n cs n) ≡ map partCode (closing n C (plan n H))
-  all-are = rw chosen-are (all-listed n H small l C holds)
+  in-ring : (k : ℕ) (o : Option Path) → namedPaths n cs k ≡ o → k < n → (p : Part) → p ∈ partsOf n o → InRing largest p
+  unfolding partsOf
+  in-ring k none e h p m = absurd (List·Memᴰ·not-nil m)
+  in-ring k (some w) e h p m =
+      let r = path-in-ring n w (named-ends n k (choiceAt cs k) w (names k h) h (sym e)) p m in (r .0, omega (arith, r .1))
+
+  -- what is listed of all of them is the closing phase
+  all-are : fresh l (codesTo n cs n) ≡ map partCode (closing n C (namedPaths n cs))
+  unfolding codesTo closing sequence
+  all-are =
+      fresh-comings (flatMap (λ k. partsOf n (namedPaths n cs k)) (below n)) l C holds (λ p m.
+      let t = flat-at (λ k. partsOf n (namedPaths n cs k)) (below n) m in
+      in-ring (t .0) _ refl (below-lt n (t .0) (t .1)) p (t .2))
 
   all-length : length (fresh l (codesTo n cs n)) ≡ count
-  all-length = ap length all-are ∙ length-map (closing n C (plan n H)) partCode ∙ sym counted
+  all-length = ap length all-are ∙ length-map (closing n C (namedPaths n cs)) partCode ∙ sym counted
 
   -- there is room for the next bus's
-  pub next-room : b < n → end + length (fresh l′ (pathCodes n (namedPath n b (choiceAt cs b)))) ≤ 60
+  pub next-room : b < n → end + length (fresh l′ (pathCodes n (namedPaths n cs b))) ≤ 60
   next-room h =
       let t = front n cs (b + 1) (omega arith) in
-      let all : 0 + length (fresh l (codesTo n cs n)) ≤ 60 = omega (arith, all-length, phases-fit n H C small) in
+      let all : 0 + length (fresh l (codesTo n cs n)) ≤ 60 = omega (arith, all-length) in
       room-behind _ 60 listed (rw (codes-more n cs b) at (room-front 0 l (codesTo n cs (b + 1)) (t .0) 60 (rw (t .1) at all)))
 
   -- .. and they are the closing phase if they are as many
-  pub full : end ≡ count → Appended (map partCode (closing n C (plan n H))) codes 0 codes′ count
+  pub full : end ≡ count → Appended (map partCode (closing n C (namedPaths n cs))) codes 0 codes′ count
   full e =
       let t = front n cs b inside in
       let f : fresh l (codesTo n cs n) ≡ fresh l (codesTo n cs b) ++ fresh (markAll l (codesTo n cs b)) (t .0) =
@@ -240,11 +245,8 @@ module _ (n : ℕ) (H : PartHealth) (small : n ≤ largest) (C : PartCommands) (
       f ∙ no-more (fresh l (codesTo n cs b)) _ (omega (arith, ap length f, all-length, listed .stored .end)) in
       rw (← all-are, same, ← e) (listed .stored)
 
-  pub done : b ≡ n → Appended (map partCode (closing n C (plan n H))) codes 0 codes′ count
+  pub done : b ≡ n → Appended (map partCode (closing n C (namedPaths n cs))) codes 0 codes′ count
   done e = full (omega (arith, listed .stored .end, ap (λ k. length (fresh l (codesTo n cs k))) e ∙ all-length))
-
-  pub next-inside : b < n → Inside n (choiceAt cs b)
-  next-inside h = rw chosen-are (plan-inside n H small b h)
 
 -- a phase of no parts
 pub nothing-listed : (ps : List Part) (codes : List ℕ) (count : ℕ) → count ≡ length ps → count ≡ 0 → Appended (map partCode ps) codes 0 codes count

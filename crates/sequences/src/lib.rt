@@ -7,19 +7,17 @@ ghost use Prim.Native.Nat.{_+_, _≤_, _<_};
 ghost use lib.ListN.{length};
 ghost use Rattle.model.specs.Values.{partCode};
 ghost use Rattle.model.specs.Priority.{pathParts};
-ghost use Rattle.model.specs.Choosing.{plan, choices as choicesFor};
 ghost use Rattle.model.specs.Sheet.{closing as closingPhase};
-ghost use Rattle.model.specs.Reports.{healthOf, commandsOf};
+ghost use Rattle.model.specs.Reports.{commandsOf};
 ghost use Rattle.model.specs.Laws.Appended.{Appended};
 ghost use Rattle.theory.specs.Proofs.Paths.{pathTo};
 ghost use Rattle.walks.specs.Walk.{outward};
 ghost use Rattle.paths.specs.Search.{pathFound};
 ghost use Rattle.sequences.specs.Marks.{fresh, Listed, Holds};
-ghost use Rattle.sequences.specs.Outward.{Inside, namedPath, breakerCodes, pathCodes};
+ghost use Rattle.sequences.specs.Outward.{Inside, AllInside, namedPath, namedPaths, breakerCodes, pathCodes};
 use model::BusChoice;
 use model::Choice;
 use model::Commands;
-use model::Ring;
 use paths::Found;
 
 // By part code, the parts to be passed over: at first those that stand commanded on or closed, then those listed too.
@@ -152,24 +150,27 @@ fn list_bus(
     }
 }
 
-// Stores the codes of the closing phase, which has so many, for a ring that was told its reports and the choices that its health calls for.
-pub fn closing(ring: Ring, choices: [BusChoice; 20], count: usize, codes: &mut [u8; 60])
-    requires size { ⌜ ring .n ≤ 20 ⌝ }
-    requires chosen { ⌜ choices ≡ choicesFor (ring .n) (healthOf (ring .health)) ⌝ }
-    requires counted { ⌜
-        count ≡ length (closingPhase (ring .n) (commandsOf (ring .commands)) (plan (ring .n) (healthOf (ring .health))))
-        ⌝ }
+// Stores the codes of the closing phase, which has so many, by the commands that stand and each bus's choice.
+pub fn closing(
+    n: usize,
+    old: Commands,
+    choices: [BusChoice; 20],
+    count: usize,
+    codes: &mut [u8; 60],
+)
+    requires size { ⌜ n ≤ 20 ⌝ }
+    requires named { ⌜ AllInside n choices ⌝ }
+    requires counted { ⌜ count ≡ length (closingPhase n (commandsOf old) (namedPaths n choices)) ⌝ }
+    requires fits { ⌜ count ≤ 60 ⌝ }
     ensures { λ r. ⌜
-        Appended (map partCode (closingPhase (ring .n) (commandsOf (ring .commands)) (plan (ring .n) (healthOf (ring .health)))))
-        (now (codes .entry)) 0 (now (codes .exit)) count
+        Appended (map partCode (closingPhase n (commandsOf old) (namedPaths n choices))) (now (codes .entry)) 0 (now (codes .exit)) count
         ⌝ }
 {
     // Most reports close nothing.
     if count == 0 {
         return;
     }
-    let n = ring.n as usize;
-    let mut passed = commanded(ring.commands);
+    let mut passed = commanded(old);
     let mut end = 0;
     for b in 0..n {
         // What is listed is a front of the phase: as long, it is the phase.

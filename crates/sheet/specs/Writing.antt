@@ -7,64 +7,79 @@ use native.Mathlib.Omega.{arith}
 use lib.ListN.{length, drop, length-map}
 use borrow.Author.Tests.{lt-ltb, le-ltb}
 use Rattle.model.specs.declared.Commands.{Commands}
-use Rattle.model.specs.declared.Ring.{Ring}
+use Rattle.model.specs.declared.BusChoice.{BusChoice}
 use Rattle.model.specs.declared.Outcome.{Outcome}
 use Rattle.model.specs.declared.Outcome.the-variants.{Served, Refused}
 use Rattle.model.specs.Values.{partCode, outcomeNumber, outcomeOf}
 use Rattle.model.specs.Plant.{PartHealth, PartCommands, largest, parts}
-use Rattle.model.specs.Choosing.{plan, commands}
-use Rattle.model.specs.Sheet.{opening, closing, sheet, written}
-use Rattle.model.specs.Reports.{healthOf, commandsOf, commandPlaces, planned}
-use Rattle.model.specs.Refusals.{firstMet, tooShort, sheetRefusal, nextSheet}
+use Rattle.model.specs.Choosing.{plan, commands, choices}
+use Rattle.model.specs.Sheet.{opening, closing, sheetOf, sheet, written}
+use Rattle.model.specs.Reports.{commandsOf, commandPlaces}
+use Rattle.model.specs.Refusals.{firstMet, tooShort, sheetRefusal}
 use Rattle.model.specs.Answers.{bufferAfter}
 use Rattle.model.specs.Laws.Lists.{keep-ext}
 use Rattle.model.specs.Laws.Parts.{parts-at, command-places}
-use Rattle.model.specs.Laws.Sheet.{closingByCode}
+use Rattle.model.specs.Laws.Sheet.{sheetOf-length, closingByCode}
 use Rattle.theory.specs.Theorems.Locality.{Agree, opening-ext}
 use Rattle.theory.specs.Theorems.Closing.{closing-count, sheet-fits}
 use Rattle.phases.specs.Codes.{openingCodes}
-use Rattle.layout.specs.Layout.{layout, sheet-layout, layout-length}
+use Rattle.layout.specs.Layout.{layout, sheet-layout}
+use Rattle.sequences.specs.Outward.{AllInside, namedPaths, plan-inside, closing-named}
 
--- ---- the phases of a ring told its reports, by the plan's commands as code holds them
+-- the commands and the choices of a plan: those that some health calls for
+abbrev pub Planned : ℕ → Commands → List BusChoice → Type 0
+Planned n new cs = (H : PartHealth) × (new ≡ commandPlaces (commands n H)) × (cs ≡ choices n H)
 
-module _ (ring : Ring) (small : ring .n ≤ largest) (new : Commands) (is : new ≡ commandPlaces (planned ring)) where
-  abbrev old : PartCommands
-  old = commandsOf (ring .commands)
+-- the sheet from the old commands to the new, outward along the paths that the choices name
+unfoldable pub sheetBy : ℕ → Commands → Commands → List BusChoice → List ℕ
+sheetBy n old new cs =
+    sheetOf (opening n (commandsOf old) (commandsOf new)) (closing n (commandsOf old) (namedPaths n cs))
 
-  abbrev H : PartHealth
-  H = healthOf (ring .health)
+-- ---- the sheet of a plan
 
-  held : Agree (ring .n) (commandsOf new) (commands (ring .n) H)
-  unfolding planned
-  held p r = rw is (command-places (planned ring) p (r .0, omega (arith, r .1)))
+module _ (n : ℕ) (small : n ≤ largest) (old new : Commands) (cs : List BusChoice) (H : PartHealth) (are : new ≡ commandPlaces (commands n H))
+    (chosen-are : cs ≡ choices n H) where
+  held : Agree n (commandsOf new) (commands n H)
+  held p r = rw are (command-places (commands n H) p (r .0, omega (arith, r .1)))
 
-  opening-is : openingCodes (ring .n) (ring .commands) new ≡ map partCode (opening (ring .n) old (commands (ring .n) H))
-  opening-is = ap (map partCode) (opening-ext (ring .n) old old (commandsOf new) (commands (ring .n) H) (λ p r. refl) held)
+  opening-is : opening n (commandsOf old) (commandsOf new) ≡ opening n (commandsOf old) (commands n H)
+  opening-is = opening-ext n (commandsOf old) (commandsOf old) (commandsOf new) (commands n H) (λ p r. refl) held
+
+  closing-is : closing n (commandsOf old) (namedPaths n cs) ≡ closing n (commandsOf old) (plan n H)
+  closing-is = rw chosen-are (closing-named n H small (commandsOf old))
+
+  -- it is the sheet of that health
+  pub sheet-is : sheetBy n old new cs ≡ sheet n (commandsOf old) H
+  unfolding sheetBy sheet
+  sheet-is = rw (opening-is, closing-is)
+
+  pub all-inside : AllInside n cs
+  all-inside = rw chosen-are (plan-inside n H small)
 
   -- as many parts close as the closing phase has
-  pub closing-is : length (closingByCode (ring .n) old (commandsOf new)) ≡ length (closing (ring .n) old (plan (ring .n) H))
+  pub closing-counted : length (closingByCode n (commandsOf old) (commandsOf new)) ≡ length (closing n (commandsOf old) (namedPaths n cs))
   unfolding closingByCode
-  closing-is =
-      ap length (keep-ext (λ p. not (old p) && commandsOf new p) (λ p. not (old p) && commands (ring .n) H p) (parts (ring .n))
-      (λ p m. rw (held p (parts-at (ring .n) p m))))
-      ∙ sym (closing-count (ring .n) H old small)
-
-  -- the sheet, laid out
-  pub next-layout : nextSheet ring
-      ≡ layout (openingCodes (ring .n) (ring .commands) new) (map partCode (closing (ring .n) old (plan (ring .n) H)))
-  unfolding nextSheet sheet
-  next-layout = rw opening-is (sheet-layout (opening (ring .n) old (commands (ring .n) H)) (closing (ring .n) old (plan (ring .n) H)))
+  closing-counted =
+      ap length (keep-ext (λ p. not (commandsOf old p) && commandsOf new p) (λ p. not (commandsOf old p) && commands n H p) (parts n)
+      (λ p m. rw (held p (parts-at n p m))))
+      ∙ sym (closing-count n H (commandsOf old) small)
+      ∙ ap length (sym closing-is)
 
   -- its sizes, and that it fits
-  pub next-length : {o k : ℕ} → o ≡ length (openingCodes (ring .n) (ring .commands) new)
-      → k ≡ length (closingByCode (ring .n) old (commandsOf new))
-      → (length (nextSheet ring) ≡ 2 + 2 * (o + k)) × (length (nextSheet ring) ≤ 122)
-  unfolding nextSheet
-  next-length e f = (
-    ap length next-layout ∙ layout-length _ _
-        ∙ omega (arith, closing-is, length-map (closing (ring .n) old (plan (ring .n) H)) partCode),
-    sheet-fits (ring .n) H old small,
+  pub sheet-length : {o k : ℕ} → o ≡ length (openingCodes n old new) → k ≡ length (closingByCode n (commandsOf old) (commandsOf new))
+      → (length (sheetBy n old new cs) ≡ 2 + 2 * (o + k)) × (length (sheetBy n old new cs) ≤ 122)
+  unfolding sheetBy
+  sheet-length e f = (
+    sheetOf-length (opening n (commandsOf old) (commandsOf new)) (closing n (commandsOf old) (namedPaths n cs))
+        ∙ omega (arith, closing-counted, length-map (opening n (commandsOf old) (commandsOf new)) partCode),
+    omega (arith, ap length sheet-is, sheet-fits n H (commandsOf old) small),
   )
+
+-- the sheet, laid out
+pub sheet-laid : (n : ℕ) (old new : Commands) (cs : List BusChoice)
+    → sheetBy n old new cs ≡ layout (openingCodes n old new) (map partCode (closing n (commandsOf old) (namedPaths n cs)))
+unfolding sheetBy
+sheet-laid n old new cs = sheet-layout (opening n (commandsOf old) (commandsOf new)) (closing n (commandsOf old) (namedPaths n cs))
 
 -- ---- the buffer
 

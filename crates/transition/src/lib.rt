@@ -30,11 +30,12 @@ fn advance(ring: Ring, kept: Ring, buffer: &mut [u8]) -> RingAnswer
         ⌝ }
 {
     let planned = planner::plan(ring.n, ring.health);
+    let old = ring.commands;
     let new = planned.commands;
     let choices = planned.choices;
     let mut next = ring;
     next.commands = new;
-    match sheet::write(ring, new, choices, buffer) {
+    match sheet::write(ring.n, old, new, choices, buffer) {
         Outcome::Served => RingAnswer {
             outcome: Outcome::Served,
             ring: next,

@@ -4,28 +4,24 @@ use Prim.Native.Nat.{_-_, _≤_}
 use native.Mathlib.Omega.{arith}
 use denote.Ref.{now}
 use borrow.Author.Needs.{needs}
-use Rattle.model.specs.Choosing.{plan}
 use Rattle.model.specs.Sheet.{closing as closingPhase}
-use Rattle.model.specs.Reports.{healthOf, commandsOf}
+use Rattle.model.specs.Reports.{commandsOf}
 use Rattle.sequences.specs.Marks.{Listed, listed-none, listed-more}
-use Rattle.sequences.specs.Outward.{codesTo, codes-none, codes-more, next-room, full, done, next-inside, nothing-listed}
+use Rattle.sequences.specs.Outward.{namedPaths, codesTo, codes-none, codes-more, next-room, full, done, nothing-listed}
 use Rattle.sequences.proofs.closing.Statement.{statement}
 use Rattle.sequences.proofs.closing.Tie as tie
 
 abbrev Inv-loop : tie.InvT-loop
-Inv-loop count codes₀ choices n passed₀ end₀ b₀ codes passed end b = Listed (codesTo n choices b) passed₀ codes₀ 0 passed codes end × (b ≤ n)
+Inv-loop n count codes₀ choices passed₀ end₀ b₀ codes passed end b = Listed (codesTo n choices b) passed₀ codes₀ 0 passed codes end × (b ≤ n)
 
 abbrev μ-loop : tie.MeasureT-loop
-μ-loop count codes₀ choices n passed₀ end₀ b₀ codes passed end b = n - b
+μ-loop n count codes₀ choices passed₀ end₀ b₀ codes passed end b = n - b
 
 returns : tie.Need-returns Inv-loop μ-loop
 returns c =
     let s = c .before in
-    let ring = s .args .ring in
-    nothing-listed (closingPhase (ring .n) (commandsOf (ring .commands)) (plan (ring .n) (healthOf (ring .health)))) _ _ (s .pre .1 .1) (c .if1 .taken)
-
-cast-n : tie.Need-cast-n Inv-loop μ-loop
-cast-n c = search needs
+    let a = s .args in
+    nothing-listed (closingPhase (a .n) (commandsOf (a .old)) (namedPaths (a .n) (a .t3))) _ _ (s .pre .1 .1 .0) (c .if1 .taken)
 
 commanded-requires : tie.Need-commanded-requires Inv-loop μ-loop
 commanded-requires c κs = search needs
@@ -37,9 +33,8 @@ returns-2 : tie.Need-returns-2 Inv-loop μ-loop
 returns-2 c =
     let q = c .before .before in
     let d = q .before in
-    let s = d .before .before .before in
-    let ring = s .args .ring in
-    full (ring .n) (healthOf (ring .health)) (s .pre .0) (commandsOf (ring .commands)) _ (s .pre .1 .1) _ (s .pre .1 .0) _ (d .commanded .ensures) _ _
+    let s = d .before .before in
+    full (s .args .n) (s .pre .0) (commandsOf (s .args .old)) _ (s .pre .1 .0) _ (s .pre .1 .1 .0) (s .pre .1 .1 .1) _ (d .commanded .ensures) _ _
     (q .loop .inv .1) _ _ _ (q .loop .inv .0) (c .if2 .taken)
 
 mul-bus : tie.Need-mul-bus Inv-loop μ-loop
@@ -52,16 +47,10 @@ list-bus-requires : tie.Need-list-bus-requires Inv-loop μ-loop
 list-bus-requires c κs =
     let q = c .before .before .before .before .before in
     let d = q .before in
-    let s = d .before .before .before in
-    let ring = s .args .ring in
+    let s = d .before .before in
     let less = c .before .before .before .before .loop-test .taken in (
-      (
-        less,
-        s .pre .0,
-        next-inside (ring .n) (healthOf (ring .health)) (s .pre .0) (commandsOf (ring .commands)) _ (s .pre .1 .1) _ (s .pre .1 .0) _
-            (d .commanded .ensures) _ _ (q .loop .inv .1) _ _ _ (q .loop .inv .0) less,
-      ),
-      next-room (ring .n) (healthOf (ring .health)) (s .pre .0) (commandsOf (ring .commands)) _ (s .pre .1 .1) _ (s .pre .1 .0) _
+      (less, s .pre .0, s .pre .1 .0 _ less),
+      next-room (s .args .n) (s .pre .0) (commandsOf (s .args .old)) _ (s .pre .1 .0) _ (s .pre .1 .1 .0) (s .pre .1 .1 .1) _
           (d .commanded .ensures) _ _ (q .loop .inv .1) _ _ _ (q .loop .inv .0) less,
     )
 
@@ -80,9 +69,8 @@ returns-3 : tie.Need-returns-3 Inv-loop μ-loop
 returns-3 c =
     let q = c .before in
     let d = q .before in
-    let s = d .before .before .before in
-    let ring = s .args .ring in
-    done (ring .n) (healthOf (ring .health)) (s .pre .0) (commandsOf (ring .commands)) _ (s .pre .1 .1) _ (s .pre .1 .0) _ (d .commanded .ensures) _ _
+    let s = d .before .before in
+    done (s .args .n) (s .pre .0) (commandsOf (s .args .old)) _ (s .pre .1 .0) _ (s .pre .1 .1 .0) (s .pre .1 .1 .1) _ (d .commanded .ensures) _ _
     (q .loop .inv .1) _ _ _ (q .loop .inv .0) (omega arith)
 
 pub closing-spec : {M : Type 1} → statement M
@@ -92,7 +80,6 @@ closing-spec =
     Inv-loop
     μ-loop
     returns
-    cast-n
     commanded-requires
     loop-holds
     returns-2

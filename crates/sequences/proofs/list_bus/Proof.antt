@@ -6,7 +6,7 @@ use borrow.Author.Needs.{needs}
 use Rattle.model.specs.Sheet.{partsOf}
 use Rattle.theory.specs.Proofs.Paths.{pathTo}
 use Rattle.sequences.specs.Marks.{listed-none}
-use Rattle.sequences.specs.Outward.{namedPath, named-source}
+use Rattle.sequences.specs.Outward.{namedPath, named-ends}
 use Rattle.sequences.proofs.list_bus.Statement.{statement}
 use Rattle.sequences.proofs.list_bus.Tie as tie
 
@@ -26,7 +26,7 @@ list-path-requires c κs =
     let d = g .before .before in
     let s = d .before in
     let is = rw (g .g .given .1) at (d .named .ensures) in
-    let l = named-source (s .args .n) (s .args .b) (s .args .choice) _ (s .pre .0 .2) is in
+    let l = named-ends (s .args .n) (s .args .b) (s .args .choice) _ (s .pre .0 .2) (s .pre .0 .0) is .source in
     (search needs, rw (← is) at (s .pre .1))
 
 returns : tie.Need-returns

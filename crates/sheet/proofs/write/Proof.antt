@@ -7,23 +7,21 @@ use denote.Ref.{now}
 use lib.ListN.{length, take, length-map}
 use lib.Seq.{length-take-le}
 use borrow.Author.Needs.{needs}
-use Rattle.model.specs.declared.Ring.{Ring}
 use Rattle.model.specs.Values.{partCode}
-use Rattle.model.specs.Choosing.{plan}
 use Rattle.model.specs.Sheet.{closing}
-use Rattle.model.specs.Reports.{healthOf, commandsOf}
-use Rattle.model.specs.Refusals.{nextSheet}
+use Rattle.model.specs.Reports.{commandsOf}
 use Rattle.model.specs.Laws.Tests.{facts}
 use Rattle.model.specs.Laws.Appended.{appended-length, appended-front}
 use Rattle.phases.specs.Codes.{openingCodes}
 use Rattle.layout.specs.Layout.{layout}
-use Rattle.sheet.specs.Writing.{closing-is, next-layout, next-length, write-refused, write-served}
+use Rattle.sequences.specs.Outward.{namedPaths}
+use Rattle.sheet.specs.Writing.{sheetBy, all-inside, closing-counted, sheet-length, sheet-laid, write-refused, write-served}
 use Rattle.sheet.proofs.write.Statement.{statement}
 use Rattle.sheet.proofs.write.Tie as tie
 
 -- what was known before the opening phase was made
 abbrev start : tie.After-opening2 → tie.Start
-start d = d .before .before .before .before
+start d = d .before .before .before
 
 -- .. and before the closing phase
 abbrev opened : tie.After-closing2 → tie.After-opening2
@@ -31,14 +29,15 @@ opened e = e .before .before .before .before
 
 -- the sheet
 abbrev bytes : tie.After-opening2 → List ℕ
-bytes d = nextSheet (start d .args .ring)
+bytes d = let a = start d .args in sheetBy (a .n) (a .old) (a .new) (a .choices)
 
 -- the counts are the phases' sizes
 counted : (d : tie.After-opening2)
     → (length (bytes d) ≡ 2 + 2 * (d .opening2 .result .opening + d .opening2 .result .closing)) × (length (bytes d) ≤ 122)
 counted d =
     let s = start d in
-    next-length (s .args .ring) (s .pre .0) (s .args .new) (s .pre .1 .0) (omega (arith, d .opening2 .ensures .0 .end)) (d .opening2 .ensures .1)
+    sheet-length (s .args .n) (s .pre .0) (s .args .old) (s .args .new) (s .args .choices) _ (s .pre .1 .1) (s .pre .1 .2) (omega (arith, d .opening2 .ensures .0 .end))
+    (d .opening2 .ensures .1)
 
 -- what is laid out of the arrays
 abbrev laid : tie.After-closing2 → List ℕ
@@ -46,23 +45,18 @@ laid e =
     let d = opened e in
     layout
     (take (d .opening2 .result .opening) (d .opening2 .last .1 .1 .1 .0))
-    (take (d .opening2 .result .closing) (e .closing2 .last .1 .1 .1 .0))
-
--- the codes of the closing phase
-abbrev closed : Ring → List ℕ
-closed ring = map partCode (closing (ring .n) (commandsOf (ring .commands)) (plan (ring .n) (healthOf (ring .health))))
+    (take (d .opening2 .result .closing) (e .closing2 .last .1 .1 .1 .1 .0))
 
 -- the codes that the arrays hold are the phases'
 made : (e : tie.After-closing2) → laid e ≡ bytes (opened e)
 made e =
     let d = opened e in
-    let s = start d in
-    let a = s .args in
-    let o : length (openingCodes (a .ring .n) (a .ring .commands) (a .new)) ≤ 60 =
-    omega (arith, counted d, d .opening2 .ensures .0 .end) in
-    let k : length (closed (a .ring)) ≤ 60 = omega (arith, counted d, e .closing2 .ensures .end) in
+    let a = start d .args in
+    let o : length (openingCodes (a .n) (a .old) (a .new)) ≤ 60 = omega (arith, counted d, d .opening2 .ensures .0 .end) in
+    let k : length (map partCode (closing (a .n) (commandsOf (a .old)) (namedPaths (a .n) (a .choices)))) ≤ 60 =
+    omega (arith, counted d, e .closing2 .ensures .end) in
     rw (appended-front (d .opening2 .ensures .0) o, appended-front (e .closing2 .ensures) k)
-    (sym (next-layout (a .ring) (s .pre .0) (a .new) (s .pre .1 .0)))
+    (sym (sheet-laid (a .n) (a .old) (a .new) (a .choices)))
 
 add-size : tie.Need-add-size
 add-size c = omega (arith, counted (c .before))
@@ -80,7 +74,16 @@ closing-requires : tie.Need-closing-requires
 closing-requires c κs =
     let d = c .before .before .before in
     let s = start d in
-    (s .pre .0, (s .pre .1 .1, d .opening2 .ensures .1 ∙ closing-is (s .args .ring) (s .pre .0) (s .args .new) (s .pre .1 .0)))
+    let a = s .args in (
+      s .pre .0,
+      (
+        all-inside (a .n) (s .pre .0) (a .old) (a .new) (a .choices) _ (s .pre .1 .1) (s .pre .1 .2),
+        (
+          d .opening2 .ensures .1 ∙ closing-counted (a .n) (s .pre .0) (a .old) (a .new) (a .choices) _ (s .pre .1 .1) (s .pre .1 .2),
+          omega (arith, counted d),
+        ),
+      ),
+    )
 
 -- the part lent is as long as the sheet
 lent : (d : tie.After-opening2) → length (bytes d) ≤ length (now (start d .args .buffer))
@@ -117,9 +120,6 @@ returns-2 c =
     write-served (bytes d) (now (start d .args .buffer)) (omega (arith, facts, counted d)) _ _
     (_∙_ {b = laid e} (c .before .before .lay-out .ensures) (made e)) (sym (counted d .0))
 
-cast-opening : tie.Need-cast-opening
-cast-opening c = search needs
-
 opening-requires : tie.Need-opening-requires
 opening-requires c κs = search needs
 
@@ -133,7 +133,6 @@ pub write-spec : {M : Type 1} → statement M
 write-spec =
     tie.close
     (tie.spec
-    cast-opening
     opening-requires
     add-size
     mul-size

@@ -19,22 +19,25 @@ commands-planned d = d .plan .ensures .1 .0
 returns : tie.Need-returns
 returns c =
     let w = c .before .before .before .before in
-    let p = w .before .before .before .before in
-    advance-served _ _ (commands-planned p) _ _ _ _ (w .write .ensures .0) (w .write .ensures .1 .1)
-    (c .enum-told .given .1) _ (choices-planned p)
+    let p = w .before .before .before .before .before in
+    advance-served _ (p .before .before .pre .1) _ (commands-planned p) _ (choices-planned p) _ _ _ _ (w .write .ensures .0) (w .write .ensures .1 .1)
+    (c .enum-told .given .1)
 
 returns-2 : tie.Need-returns-2
 returns-2 c =
     let w = c .before .before .before .before .before .before in
-    let p = w .before .before .before .before in
-    advance-refused _ _ (commands-planned p) _ _ _ _ (w .write .ensures .0) (w .write .ensures .1 .1) _
+    let p = w .before .before .before .before .before in
+    advance-refused _ (p .before .before .pre .1) _ (commands-planned p) _ (choices-planned p) _ _ _ _ (w .write .ensures .0) (w .write .ensures .1 .1) _
     (c .before .before .number .given .1) _ (c .refused .ensures)
 
 plan-requires : tie.Need-plan-requires
 plan-requires c κs = search needs
 
 write-requires : tie.Need-write-requires
-write-requires c κs = let p = c .before .before .before in (p .before .before .pre .1, (commands-planned p, choices-planned p))
+write-requires c κs =
+    let p = c .before .before .before .before in
+    let s = p .before .before in
+    (s .pre .1, (healthOf (s .args .ring .health), p .plan .ensures .1 .0, choices-planned p))
 
 enum-told : tie.Need-enum-told
 enum-told c = search needs
