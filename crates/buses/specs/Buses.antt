@@ -6,16 +6,17 @@ use Prim.Native.Nat.{ℕ, suc, _+_, _*_, _≤_, _<_}
 use Prim.Native.Char.{code}
 use native.Mathlib.Numerals.{add-one}
 use native.Mathlib.Omega.{arith}
-use lib.ListN.{length, getD, length-append, length-map}
+use lib.ListN.{length, length-append, length-map}
 use borrow.Author.Tests.{eq-eqb, ne-eqb}
 use Rattle.model.specs.declared.Choice.{Choice}
 use Rattle.model.specs.declared.Choice.the-variants.{Dark, Own, High, Low}
 use Rattle.model.specs.declared.BusChoice.{BusChoice}
 use Rattle.model.specs.Lists.{below, _∈_}
-use Rattle.model.specs.Values.{choiceSource, choiceLetter}
+use Rattle.model.specs.Values.{choiceSource, choiceLetter, choiceAt}
 use Rattle.model.specs.Plant.{largest}
 use Rattle.model.specs.Text.{ascii, decimal, choiceText, busText}
 use Rattle.model.specs.Laws.Tests.{dec-eq}
+use Rattle.model.specs.Laws.Choosing.{Inside}
 use Rattle.model.specs.Laws.Lists.{map-at, below-lt, below-length}
 use Rattle.numbers.specs.Numbers.{marked, decimal-length, marked-length}
 use Rattle.model.specs.Laws.Spaced.{behindSpaces, behind-one, behind-length}
@@ -24,13 +25,9 @@ use Rattle.model.specs.Laws.Spaced.{behindSpaces, behind-one, behind-length}
 abbrev pub busBehindSpace : ℕ → Choice → List ℕ
 busBehindSpace k c = ascii " B" ++ (marked k (code "=") ++ choiceText c)
 
--- the choice of bus b
-abbrev pub choiceAt : List BusChoice → ℕ → Choice
-choiceAt cs b = getD cs b (record { choice = Dark }) .choice
-
 -- choice c is dark, or names a generator of the largest ring
 abbrev pub Named : Choice → Type 0
-Named c = (c ≡ Dark) ⊎ ((0 < choiceSource c) × (choiceSource c ≤ largest))
+Named c = Inside largest c
 
 -- so are those of the first n buses
 abbrev pub AllNamed : ℕ → List BusChoice → Type 0

@@ -1,9 +1,8 @@
 -- A served start or step, from its answer and its sheet's bytes to its line. A ring is one that was told its reports.
-use mathlib.Core.Path.{_≡_, refl, sym, _∙_, ap}
+use mathlib.Core.Path.{_≡_, sym, _∙_, ap}
 use mathlib.Core.Bool.{false}
 use mathlib.Core.Logic.{inl, inr, _≢_}
 use mathlib.Core.List.{List}
-use mathlib.Core.Option.{Option, none, some}
 use Prim.Native.Nat.{ℕ, _+_, _*_, _≤_}
 use native.Mathlib.Omega.{arith}
 use lib.ListN.{length, replicate, length-replicate}
@@ -14,11 +13,10 @@ use Rattle.model.specs.declared.Ring.{Ring}
 use Rattle.model.specs.declared.Scan.{Scan}
 use Rattle.model.specs.declared.RingAnswer.{RingAnswer}
 use Rattle.model.specs.declared.Outcome.the-variants.{Served, Refused}
-use Rattle.model.specs.declared.Choice.the-variants.{Dark}
+use Rattle.model.specs.declared.Choice.{Choice}
 use Rattle.model.specs.Values.{outcomeNumber}
 use Rattle.model.specs.Plant.{PartHealth, smallest, largest}
-use Rattle.model.specs.Priority.{Path}
-use Rattle.model.specs.Choosing.{chosen, plan, commands, choiceOf, choices}
+use Rattle.model.specs.Choosing.{plan, commands, choices}
 use Rattle.model.specs.Sheet.{opening, closing, sheet, written}
 use Rattle.model.specs.Reports.{healthOf, commandsOf, blankRing, told, withPlan}
 use Rattle.model.specs.Refusals.{firstMet, tooShort, badRecord, nextSheet, reportConditions, startRefusal, stepRefusal}
@@ -29,8 +27,8 @@ use Rattle.model.specs.ScanText.{sheetRoom, scanText, scanState}
 use Rattle.model.specs.Laws.Sheet.{sheetOf-length}
 use Rattle.model.specs.Laws.Refusals.{inside, good-size, served-refused}
 use Rattle.model.specs.Laws.Scans.{told-size}
-use Rattle.model.specs.Laws.Choosing.{choices-at, choice-source}
-use Rattle.theory.specs.Proofs.Choosing.{chosen-ends}
+use Rattle.model.specs.Laws.Choosing.{Inside}
+use Rattle.theory.specs.Proofs.Choosing.{choices-inside}
 use Rattle.theory.specs.Theorems.Closing.{closing-at, sheet-fits}
 use Rattle.demands.specs.Proofs.Operations.{opening-at}
 use Rattle.demands.specs.Statements.Records.{started}
@@ -42,14 +40,13 @@ use Rattle.calls.specs.Lines.{Shown, Answered}
 
 -- ---- the answer and the sheet of a transition
 
--- a choice names a generator of the ring
+-- a choice names a generator of the ring, and so of the largest
 choices-named : (n : ℕ) (H : PartHealth) → n ≤ largest → AllNamed n (choices n H)
-unfolding choiceOf plan
-choices-named n H small b hb = rw (choices-at n H b (record { choice = Dark }) hb small) (go (plan n H b) refl)
+choices-named n H small b hb = go (choices-inside n H small b hb)
   where
-    go : (o : Option Path) → plan n H b ≡ o → Named (choiceOf n o)
-    go none e = inl refl
-    go (some w) e = inr (rw (choice-source n w) (omega arith, omega (arith, chosen-ends n H (chosen n H b) b w hb e .0 .source)))
+    go : {c : Choice} → Inside n c → Named c
+    go (inl e) = inl e
+    go (inr i) = inr (i .0, omega (arith, i .1))
 
 -- what the answer of a served call gives, and the bytes that it leaves: the choices, the sheet, and the line that is made of them
 pub record Given (ring : Ring) (a : RingAnswer) (after : List ℕ) : Type 0 where

@@ -6,18 +6,17 @@ use Prim.Native.Nat.{ℕ, zero, suc, _+_, _*_, _/_, _%_, _<_}
 use Prim.Native.String.{String, [] as end, _∷_ as _then_}
 use Prim.Native.Char.{code}
 use lib.Dec.{ltb, eqb}
-use lib.ListN.{length, getD, drop}
+use lib.ListN.{length, drop}
 use Rattle.model.specs.declared.Part.{Part}
 use Rattle.model.specs.declared.Part.the-variants.{Generator, GeneratorBreaker, BusBreaker}
 use Rattle.model.specs.declared.Ring.{Ring}
 use Rattle.model.specs.declared.Choice.{Choice}
-use Rattle.model.specs.declared.Choice.the-variants.{Dark}
 use Rattle.model.specs.declared.BusChoice.{BusChoice}
 use Rattle.model.specs.declared.ReportAnswer.{ReportAnswer}
 use Rattle.model.specs.declared.ReportAnswer.the-variants.{Read, Refused, Missing}
 use Rattle.model.specs.declared.RunCursor.{RunCursor}
 use Rattle.model.specs.Lists.{below}
-use Rattle.model.specs.Values.{number, choiceSource, choiceLetter}
+use Rattle.model.specs.Values.{number, choiceSource, choiceLetter, choiceAt}
 use Rattle.model.specs.Plant.{largest}
 use Rattle.model.specs.Choosing.{plan, commands, choices}
 use Rattle.model.specs.Sheet.{opening, closing}
@@ -61,7 +60,7 @@ choiceText c = cond (eqb (choiceSource c) 0) (choiceLetter c ∷ []) (ascii "G" 
 
 -- "each bus with its source and way": bus b, as `B3=-`
 unfoldable pub busText : List BusChoice → ℕ → List ℕ
-busText cs b = ascii "B" ++ (decimal (suc b) ++ (ascii "=" ++ choiceText (getD cs b (record { choice = Dark }) .choice)))
+busText cs b = ascii "B" ++ (decimal (suc b) ++ (ascii "=" ++ choiceText (choiceAt cs b)))
 
 -- "`+` is on or closed, a trailing `-` off or open, a lone `-` an empty wave."
 unfoldable pub phaseText : String → List Part → List ℕ

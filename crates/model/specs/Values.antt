@@ -5,6 +5,7 @@ use mathlib.Core.List.{List, [], _∷_, map}
 use Prim.Native.Nat.{ℕ, zero, suc, _+_}
 use Prim.Native.Char.{code}
 use lib.Dec.{eqb}
+use lib.ListN.{getD}
 use Rattle.model.specs.declared.Part.{Part}
 use Rattle.model.specs.declared.Part.the-variants.{Generator, GeneratorBreaker, BusBreaker}
 use Rattle.model.specs.declared.Word.{Word}
@@ -80,6 +81,10 @@ choiceLetter choice.Dark = code "-"
 choiceLetter (choice.Own g) = code "o"
 choiceLetter (choice.High g) = code "h"
 choiceLetter (choice.Low g) = code "l"
+
+-- the choice of bus b, from 0
+abbrev pub choiceAt : List BusChoice → ℕ → Choice
+choiceAt cs b = getD cs b (record { choice = choice.Dark }) .choice
 
 -- "dark, fed by one generator, or a clash that names the two lowest generators feeding it": the generators named
 abbrev pub feedSources : Feed → List ℕ

@@ -13,7 +13,7 @@ use Rattle.model.specs.Lists.{keep, _∈_}
 use Rattle.model.specs.Values.{partCode, samePart}
 use Rattle.model.specs.Plant.{PartCommands, largest, generator, generatorBreaker, busBreaker, InRing}
 use Rattle.model.specs.Sheet.{firstComings}
-use Rattle.model.specs.Laws.Tests.{contra, dec, not-of}
+use Rattle.model.specs.Laws.Tests.{contra, dec}
 use Rattle.model.specs.Laws.Lists.{keep-ext, keep-twice}
 use Rattle.model.specs.Laws.Parts.{same-eq, same-refl, ring-more, index-suc, code-only}
 use Rattle.model.specs.Laws.Appended.{Appended, appended-none, appended-byte, appended-more}

@@ -1,7 +1,7 @@
 -- The codes of the buses' paths, outward from their generators, and the path that a choice names.
 use mathlib.Core.Path.{_≡_, refl, sym, _∙_, ap}
 use mathlib.Core.Bool.{Bool, true, false, not, cond, Bool·beq}
-use mathlib.Core.Logic.{_⊎_, inl, inr, _≢_}
+use mathlib.Core.Logic.{inl, inr, _≢_}
 use mathlib.Core.List.{List, [], _∷_, _++_, map, flatMap, map-append, map-map, append-assoc, append-nil, List·Memᴰ·not-nil}
 use mathlib.Core.Option.{Option, none, some}
 use Prim.Native.Nat.{ℕ, zero, suc, _+_, _-_, _≤_, _<_}
@@ -10,32 +10,27 @@ use native.Mathlib.Omega.{arith}
 use native.Mathlib.Nat.{zero-add, add-zero}
 use native.Mathlib.Numerals.{add-one}
 use lib.Dec.{eqb}
-use lib.ListN.{length, getD, length-append, length-map}
+use lib.ListN.{length, length-append, length-map}
 use borrow.Author.Tests.{eqb-true}
 use Rattle.model.specs.declared.Part.{Part}
 use Rattle.model.specs.declared.Choice.{Choice}
 use Rattle.model.specs.declared.Choice.the-variants.{Dark, Own, High, Low}
 use Rattle.model.specs.declared.BusChoice.{BusChoice}
 use Rattle.model.specs.Lists.{below, _∈_}
-use Rattle.model.specs.Values.{index, partCode, choiceSource, choiceLetter}
+use Rattle.model.specs.Values.{index, partCode, choiceSource, choiceLetter, choiceAt}
 use Rattle.model.specs.Plant.{PartHealth, PartCommands, largest, busBreaker, InRing}
 use Rattle.model.specs.Priority.{Path, pathBusBreakers, pathBreakers, pathParts, highRises, paths}
 use Rattle.model.specs.Choosing.{permitted, choose, chosen, plan, choiceOf, choices}
 use Rattle.model.specs.Sheet.{partsOf, sequence, closing}
 use Rattle.model.specs.Laws.Tests.{contra}
 use Rattle.model.specs.Laws.Lists.{below-lt, flat-at, flat-below, none-some, first-at}
-use Rattle.model.specs.Laws.Choosing.{choice-source, choices-at}
+use Rattle.model.specs.Laws.Choosing.{choices-at, Inside, AllInside}
 use Rattle.model.specs.Laws.Appended.{Appended, appended-none}
 use Rattle.model.specs.Laws.Sheet.{closing-paths}
 use Rattle.theory.specs.Proofs.Paths.{Ends, path-in-ring, pathTo, tried-own, tried-at}
-use Rattle.theory.specs.Proofs.Choosing.{chosen-ends}
 use Rattle.walks.specs.Walk.{breakerBeside, busBeside, outward, outward-path}
 use Rattle.paths.specs.Search.{spanOf}
 use Rattle.sequences.specs.Marks.{markAll, fresh, Listed, fresh-append, room-front, room-behind, Holds, fresh-comings}
-
--- a choice names no generator, or one of the ring
-abbrev pub Inside : ℕ → Choice → Type 0
-Inside n c = (c ≡ Dark) ⊎ ((0 < choiceSource c) × (choiceSource c ≤ n))
 
 -- the path to bus b that a choice names
 abbrev pub namedPath : ℕ → ℕ → Choice → Option Path
@@ -52,17 +47,9 @@ breakerCodes is = map (λ i. 64 + i) is
 abbrev pub pathCodes : ℕ → Option Path → List ℕ
 pathCodes n o = map partCode (partsOf n o)
 
--- the choice of bus b
-abbrev pub choiceAt : List BusChoice → ℕ → Choice
-choiceAt cs b = getD cs b (record { choice = Dark }) .choice
-
 -- each bus's path, as its choice names it
 abbrev pub namedPaths : ℕ → List BusChoice → ℕ → Option Path
 namedPaths n cs b = namedPath n b (choiceAt cs b)
-
--- the choices of the first n buses name no generator, or one of the ring
-abbrev pub AllInside : ℕ → List BusChoice → Type 0
-AllInside n cs = (b : ℕ) → b < n → Inside n (choiceAt cs b)
 
 -- the codes of the paths of the first k buses
 unfoldable pub codesTo : ℕ → List BusChoice → ℕ → List ℕ
@@ -140,14 +127,6 @@ beq-other false true e = refl
 beq-other false false e = contra refl e
 
 module _ (n : ℕ) (H : PartHealth) (small : n ≤ largest) where
-  pub plan-inside : AllInside n (choices n H)
-  unfolding choiceOf plan
-  plan-inside b hb = rw (choices-at n H b (record { choice = Dark }) hb small) (go (plan n H b) refl)
-    where
-      go : (o : Option Path) → plan n H b ≡ o → Inside n (choiceOf n o)
-      go none e = inl refl
-      go (some w) e = inr (rw (choice-source n w) (omega arith, chosen-ends n H (chosen n H b) b w hb e .0 .source))
-
   -- a choice of the plan names the path that it was made for
   named-plan : (b : ℕ) → b < n → namedPath n b (choiceAt (choices n H) b) ≡ plan n H b
   unfolding choiceOf plan choose

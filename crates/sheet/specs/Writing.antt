@@ -11,20 +11,22 @@ use Rattle.model.specs.declared.BusChoice.{BusChoice}
 use Rattle.model.specs.declared.Outcome.{Outcome}
 use Rattle.model.specs.declared.Outcome.the-variants.{Served, Refused}
 use Rattle.model.specs.Values.{partCode, outcomeNumber, outcomeOf}
-use Rattle.model.specs.Plant.{PartHealth, PartCommands, largest, parts}
+use Rattle.model.specs.Plant.{PartHealth, largest, parts}
 use Rattle.model.specs.Choosing.{plan, commands, choices}
 use Rattle.model.specs.Sheet.{opening, closing, sheetOf, sheet, written}
 use Rattle.model.specs.Reports.{commandsOf, commandPlaces}
 use Rattle.model.specs.Refusals.{firstMet, tooShort, sheetRefusal}
 use Rattle.model.specs.Answers.{bufferAfter}
 use Rattle.model.specs.Laws.Lists.{keep-ext}
+use Rattle.model.specs.Laws.Choosing.{AllInside}
 use Rattle.model.specs.Laws.Parts.{parts-at, command-places}
 use Rattle.model.specs.Laws.Sheet.{sheetOf-length, closingByCode}
+use Rattle.theory.specs.Proofs.Choosing.{choices-inside}
 use Rattle.theory.specs.Theorems.Locality.{Agree, opening-ext}
 use Rattle.theory.specs.Theorems.Closing.{closing-count, sheet-fits}
 use Rattle.phases.specs.Codes.{openingCodes}
 use Rattle.layout.specs.Layout.{layout, sheet-layout}
-use Rattle.sequences.specs.Outward.{AllInside, namedPaths, plan-inside, closing-named}
+use Rattle.sequences.specs.Outward.{namedPaths, closing-named}
 
 -- the commands and the choices of a plan: those that some health calls for
 abbrev pub Planned : ℕ → Commands → List BusChoice → Type 0
@@ -54,7 +56,7 @@ module _ (n : ℕ) (small : n ≤ largest) (old new : Commands) (cs : List BusCh
   sheet-is = rw (opening-is, closing-is)
 
   pub all-inside : AllInside n cs
-  all-inside = rw chosen-are (plan-inside n H small)
+  all-inside = rw chosen-are (choices-inside n H small)
 
   -- as many parts close as the closing phase has
   pub closing-counted : length (closingByCode n (commandsOf old) (commandsOf new)) ≡ length (closing n (commandsOf old) (namedPaths n cs))

@@ -14,7 +14,6 @@ use Rattle.model.specs.declared.Commands.{Commands}
 use Rattle.model.specs.declared.Ring.{Ring}
 use Rattle.model.specs.declared.BusChoice.{BusChoice}
 use Rattle.model.specs.declared.Outcome.the-variants as outcome
-use Rattle.model.specs.Lists.{_∈_}
 use Rattle.model.specs.Plant.{PartHealth, PartCommands, parts, InRing}
 use Rattle.model.specs.Choosing.{plan, commands}
 use Rattle.model.specs.Sheet.{opening, sequence, closing, sheetOf, sheet, written}

@@ -1,7 +1,8 @@
 -- Laws of choices.
 use mathlib.Core.Path.{_≡_, refl, sym, _∙_, ap}
 use mathlib.Core.Bool.{Bool, true, false, cond, Bool·beq}
-use mathlib.Core.List.{map-map}
+use mathlib.Core.Logic.{_⊎_}
+use mathlib.Core.List.{List, map-map}
 use mathlib.Core.Option.{Option, none, some}
 use Prim.Native.Nat.{ℕ, suc, _≤_, _<_}
 use Prim.Native.Char.{code}
@@ -13,7 +14,7 @@ use Rattle.model.specs.declared.Choice.{Choice}
 use Rattle.model.specs.declared.Choice.the-variants.{Dark, Own, High, Low}
 use Rattle.model.specs.declared.BusChoice.{BusChoice}
 use Rattle.model.specs.Lists.{below}
-use Rattle.model.specs.Values.{choiceSource, choiceLetter, choiceValues}
+use Rattle.model.specs.Values.{choiceSource, choiceLetter, choiceAt, choiceValues}
 use Rattle.model.specs.Plant.{PartHealth, largest}
 use Rattle.model.specs.Priority.{Path, highRises}
 use Rattle.model.specs.Choosing.{choiceOf, pathValues, plan, planValues, choices}
@@ -42,6 +43,14 @@ unfolding choices places
 choices-at n H b d h small =
     ap (λ (c : BusChoice). c .choice)
     (places-at (λ k. record { choice = cond (ltb k n) (choiceOf n (plan n H k)) Dark }) b d (omega arith)) ∙ rw (lt-ltb b n h)
+
+-- choice c is dark, or names a generator of a ring of n
+abbrev pub Inside : ℕ → Choice → Type 0
+Inside n c = (c ≡ Dark) ⊎ ((0 < choiceSource c) × (choiceSource c ≤ n))
+
+-- so are those of the first n buses
+abbrev pub AllInside : ℕ → List BusChoice → Type 0
+AllInside n cs = (b : ℕ) → b < n → Inside n (choiceAt cs b)
 
 -- ---- the values of choices
 

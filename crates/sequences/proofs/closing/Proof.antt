@@ -1,8 +1,6 @@
 -- `closing`: after b turns the codes of the first b buses' paths are gone through.
-use mathlib.Core.Path.{_≡_}
 use Prim.Native.Nat.{_-_, _≤_}
 use native.Mathlib.Omega.{arith}
-use denote.Ref.{now}
 use borrow.Author.Needs.{needs}
 use Rattle.model.specs.Sheet.{closing as closingPhase}
 use Rattle.model.specs.Reports.{commandsOf}

@@ -1,11 +1,10 @@
 -- `commanded`: after i turns the commands of a ring of i stand at their codes.
 use mathlib.Core.Path.{_≡_}
 use mathlib.Core.Bool.{Bool, false}
-use Prim.Native.Nat.{ℕ, _-_, _≤_}
+use Prim.Native.Nat.{_-_, _≤_}
 use native.Mathlib.Omega.{arith}
-use lib.ListN.{length-set, length-replicate}
+use lib.ListN.{length-replicate}
 use borrow.Author.Needs.{needs}
-use Rattle.model.specs.declared.Commands.{Commands}
 use Rattle.model.specs.Reports.{commandsOf}
 use Rattle.sequences.specs.Marks.{HoldsTo, holds-none, holds-more}
 use Rattle.sequences.proofs.commanded.Statement.{statement}

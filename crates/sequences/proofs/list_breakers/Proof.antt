@@ -1,5 +1,4 @@
 -- `list_breakers`: whatever lists the rest of the way lists, with what is listed, the whole of it.
-use mathlib.Core.Path.{_≡_, sym}
 use mathlib.Core.Bool.{Bool}
 use mathlib.Core.List.{List, [], _∷_}
 use Prim.Native.Nat.{ℕ, suc, _+_, _-_, _≤_, _<_}

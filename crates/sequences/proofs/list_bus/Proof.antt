@@ -1,12 +1,9 @@
 -- `list_bus`: the parts of the path that the bus's choice names, or none.
-use mathlib.Core.Path.{_≡_}
-use mathlib.Core.Option.{none, some}
-use native.Mathlib.Omega.{arith}
+use mathlib.Core.Option.{none}
 use borrow.Author.Needs.{needs}
 use Rattle.model.specs.Sheet.{partsOf}
-use Rattle.theory.specs.Proofs.Paths.{pathTo}
 use Rattle.sequences.specs.Marks.{listed-none}
-use Rattle.sequences.specs.Outward.{namedPath, named-ends}
+use Rattle.sequences.specs.Outward.{named-ends}
 use Rattle.sequences.proofs.list_bus.Statement.{statement}
 use Rattle.sequences.proofs.list_bus.Tie as tie
 

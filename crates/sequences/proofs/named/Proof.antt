@@ -1,5 +1,4 @@
 -- `named`: what a choice names, case by case.
-use mathlib.Core.Path.{ap}
 use native.Mathlib.Omega.{arith}
 use borrow.Author.Needs.{needs}
 use Rattle.sequences.specs.Outward.{own-inside, high-inside, low-inside, index-is}

@@ -9,14 +9,16 @@ use native.Mathlib.Omega.{arith}
 use lib.Dec.{eqb}
 use borrow.Author.Tests.{eqb-true, eq-eqb, not-true}
 use Rattle.model.specs.declared.Part.{Part}
+use Rattle.model.specs.declared.Choice.the-variants.{Dark}
 use Rattle.model.specs.Lists.{anyOf, allOf, _∈_}
 use Rattle.model.specs.Values.{samePart}
-use Rattle.model.specs.Plant.{PartHealth, generator, generatorBreaker, busBreaker, fitGenerator, stuckOpen, stuckClosed, Leads, connected}
+use Rattle.model.specs.Plant.{PartHealth, largest, generator, generatorBreaker, busBreaker, fitGenerator, stuckOpen, stuckClosed, Leads, connected}
 use Rattle.model.specs.Priority.{Path, pathBusBreakers, pathBreakers, pathParts, paths}
-use Rattle.model.specs.Choosing.{onPaths, usable, countedClosed, isolated, permitted, choose, addPath, chosen}
+use Rattle.model.specs.Choosing.{onPaths, usable, countedClosed, isolated, permitted, choose, addPath, chosen, plan, choiceOf, choices}
 use Rattle.model.specs.Laws.Tests.{contra, not-of, and-left, and-right, and-intro, or-cases, or-left, or-right, dec}
 use Rattle.model.specs.Laws.Lists.{all-cons, any-at, any-in, all-at, all-of, map-in, first-at}
 use Rattle.model.specs.Laws.Parts.{same-eq, same-refl}
+use Rattle.model.specs.Laws.Choosing.{choice-source, choices-at, Inside, AllInside}
 use Rattle.theory.specs.Theorems.Connected.{connected-leads, leads-connected}
 use Rattle.theory.specs.Proofs.Paths.{
   Ends,
@@ -222,3 +224,12 @@ pub safe-chosen : (n : ℕ) (H : PartHealth) (k : ℕ) → k ≤ n → Safe n H 
 unfolding chosen
 safe-chosen n H zero h = safe-none n H
 safe-chosen n H (suc k) h = safe-add n H (chosen n H k) k h (safe-chosen n H k (omega arith))
+
+-- every choice of a plan names a generator of the ring, or none
+pub choices-inside : (n : ℕ) (H : PartHealth) → n ≤ largest → AllInside n (choices n H)
+unfolding choiceOf plan
+choices-inside n H small b hb = rw (choices-at n H b (record { choice = Dark }) hb small) (go (plan n H b) refl)
+  where
+    go : (o : Option Path) → plan n H b ≡ o → Inside n (choiceOf n o)
+    go none e = inl refl
+    go (some w) e = inr (rw (choice-source n w) (omega arith, chosen-ends n H (chosen n H b) b w hb e .0 .source))

@@ -3,31 +3,21 @@
 use mathlib.Core.Path.{_≡_, refl, _∙_, ap₂}
 use mathlib.Core.Bool.{Bool, true, false, not, _&&_}
 use mathlib.Core.Logic.{_⊎_, inl, inr, _≢_, _↔_}
-use mathlib.Core.List.{
-  List,
-  [],
-  _∷_,
-  flatMap,
-  List·Memᴰ·head,
-  List·Memᴰ·tail,
-  List·Memᴰ·not-nil,
-  List·Memᴰ·cases-cons,
-  List·Permᴰ,
-}
+use mathlib.Core.List.{List, flatMap, List·Memᴰ·head, List·Memᴰ·tail, List·Memᴰ·not-nil, List·Memᴰ·cases-cons, List·Permᴰ}
 use mathlib.Core.Option.{Option, none, some}
 use Prim.Native.Nat.{ℕ, zero, suc, _+_, _≤_, _<_}
 use native.Mathlib.Omega.{arith}
 use lib.ListN.{length}
 use borrow.Author.Tests.{not-true}
 use Rattle.model.specs.declared.Part.{Part}
-use Rattle.model.specs.Lists.{below, keep, _∈_}
+use Rattle.model.specs.Lists.{below, _∈_}
 use Rattle.model.specs.Plant.{PartHealth, PartCommands, largest, parts, InRing}
-use Rattle.model.specs.Priority.{Path, pathParts}
+use Rattle.model.specs.Priority.{Path}
 use Rattle.model.specs.Choosing.{addPath, chosen, plan, commands}
 use Rattle.model.specs.Sheet.{opening, firstComings, partsOf, sequence, closing, sheetOf, sheet}
 use Rattle.model.specs.Laws.Tests.{contra, and-left, and-right, and-intro, not-of, dec-eq}
 use Rattle.model.specs.Laws.Lists.{below-in, below-lt, flat-in, flat-at, keep-at, keep-in, keep-ext, keep-apart, rising-keep}
-use Rattle.model.specs.Laws.Parts.{parts-in, parts-at, parts-rise, parts-length}
+use Rattle.model.specs.Laws.Parts.{parts-in, parts-rise, parts-length}
 use Rattle.model.specs.Laws.Once.{Once, keep-once, rising-once, once-perm, perm-length}
 use Rattle.model.specs.Laws.Sheet.{sheetOf-length, closingByCode, comings-at, comings-in, comings-once, closing-paths}
 use Rattle.theory.specs.Proofs.Choosing.{on-in}

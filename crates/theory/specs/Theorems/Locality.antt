@@ -33,8 +33,8 @@ use Rattle.model.specs.Priority.{Path, pathBreakers, paths}
 use Rattle.model.specs.Choosing.{usable, countedClosed, isolated, permitted, choose, chosen, plan, commands, choiceOf, choices}
 use Rattle.model.specs.Sheet.{opening}
 use Rattle.model.specs.Laws.Lists.{all-cons, all-ext, first-ext, keep-ext, map-ext, below-lt}
-use Rattle.model.specs.Reports.{healthOf, healthPlaces, commandsOf, commandPlaces}
-use Rattle.model.specs.Laws.Parts.{at-index, parts-at, health-places, command-places}
+use Rattle.model.specs.Reports.{healthOf, healthPlaces}
+use Rattle.model.specs.Laws.Parts.{at-index, parts-at, health-places}
 use Rattle.theory.specs.Theorems.Connected.{connected-ext}
 use Rattle.theory.specs.Proofs.Paths.{Ends, path-in-ring, breakers-on, tried-at}
 use Rattle.theory.specs.Proofs.Choosing.{safe-chosen}
