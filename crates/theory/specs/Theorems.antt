@@ -5,6 +5,7 @@ pub mod Feeds
 pub mod Interruption
 pub mod Locality
 pub mod Closing
+pub mod Advance
 pub mod Priorities
 pub mod Settled
 pub mod Outward
