@@ -148,7 +148,7 @@ def coded(reports):
 
 
 def outward_files():
-    """The same one after the other, a file for each breaker that is stuck open and one for the sources that follow one another."""
+    """The same one after the other, two files for each breaker that is stuck open and one for the sources that follow one another."""
     for n, numbers in OUTWARD.items():
         for cut in numbers:
             gap, before = ("BB", across(n, cut)), all_off_but(n) + [("BB", cut, 2)]

@@ -2,7 +2,7 @@
 pub mod Tests
 pub mod Lists
 pub mod Parts
-pub mod Once
+pub mod Distinct
 pub mod Choosing
 pub mod Sheet
 pub mod Reports

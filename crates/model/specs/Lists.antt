@@ -43,3 +43,8 @@ infix 4 _∈_
 pub data RisingBy {A : Type 0} (g : A → ℕ) : List A → Type 0 where
   empty : RisingBy g []
   more : {x : A} {xs : List A} → ((y : A) → y ∈ xs → g x < g y) → RisingBy g xs → RisingBy g (x ∷ xs)
+
+-- a list without repeats
+pub data Distinct {A : Type 0} : List A → Type 0 where
+  nothing : Distinct []
+  one-more : {x : A} {xs : List A} → (x ∈ xs → ⊥) → Distinct xs → Distinct (x ∷ xs)

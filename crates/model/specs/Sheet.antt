@@ -16,9 +16,9 @@ unfoldable pub opening : ℕ → PartCommands → PartCommands → List Part
 opening n old new = keep (λ p. old p && not (new p)) (parts n)
 
 -- "a part only where it first comes" (Note 4)
-unfoldable pub firstComings : List Part → List Part
-firstComings [] = []
-firstComings (p ∷ ps) = let rest = firstComings ps in p ∷ keep (λ q. not (samePart q p)) rest
+unfoldable pub firstOccurrences : List Part → List Part
+firstOccurrences [] = []
+firstOccurrences (p ∷ ps) = let rest = firstOccurrences ps in p ∷ keep (λ q. not (samePart q p)) rest
 
 -- "each chosen way in that sequence" (Note 4): the parts of a bus's path; a dark bus has none
 unfoldable pub partsOf : ℕ → Option Path → List Part
@@ -27,7 +27,7 @@ partsOf n (some w) = pathParts n w
 
 -- "The second wave goes through buses in number order and each chosen way in that sequence, a part only where it first comes." (Note 4)
 unfoldable pub sequence : ℕ → (ℕ → Option Path) → List Part
-sequence n path = firstComings (flatMap (λ b. partsOf n (path b)) (below n))
+sequence n path = firstOccurrences (flatMap (λ b. partsOf n (path b)) (below n))
 
 -- "the second every part whose order changes to on or closed": of the sequence of the buses' paths what was not commanded so
 unfoldable pub closing : ℕ → PartCommands → (ℕ → Option Path) → List Part

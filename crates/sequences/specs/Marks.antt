@@ -12,7 +12,7 @@ use Rattle.model.specs.declared.Part.the-variants.{Generator, GeneratorBreaker,
 use Rattle.model.specs.Lists.{keep, _∈_}
 use Rattle.model.specs.Values.{partCode, samePart}
 use Rattle.model.specs.Plant.{PartCommands, largest, generator, generatorBreaker, busBreaker, InRing}
-use Rattle.model.specs.Sheet.{firstComings}
+use Rattle.model.specs.Sheet.{firstOccurrences}
 use Rattle.model.specs.Laws.Tests.{contra, dec}
 use Rattle.model.specs.Laws.Lists.{keep-ext, keep-twice}
 use Rattle.model.specs.Laws.Parts.{same-eq, same-refl, ring-more, index-suc, code-only}
@@ -190,18 +190,18 @@ marked-holds {l} {C} p i h = record { places = length-set l (partCode p) true �
             (getD-set-other l (partCode p) (partCode q) true false
             (λ z. contra (rw (code-only largest q p (omega arith) j i z) (same-refl p)) e) ∙ h .at q j)
 
--- the codes listed are those of the first comings among the parts that are not commanded
-pub fresh-comings : (ps : List Part) (l : List Bool) (C : PartCommands) → Holds l C → ((p : Part) → p ∈ ps → InRing largest p)
-    → fresh l (map partCode ps) ≡ map partCode (keep (λ p. not (C p)) (firstComings ps))
-unfolding fresh firstComings keep
-fresh-comings [] l C h all = refl
-fresh-comings (p ∷ ps) l C h all =
-    go (dec (C p)) (λ l′ D k. fresh-comings ps l′ D k (λ q m. all q (List·Memᴰ·tail m)))
+-- the codes listed are those of the first occurrences among the parts that are not commanded
+pub fresh-occurrences : (ps : List Part) (l : List Bool) (C : PartCommands) → Holds l C → ((p : Part) → p ∈ ps → InRing largest p)
+    → fresh l (map partCode ps) ≡ map partCode (keep (λ p. not (C p)) (firstOccurrences ps))
+unfolding fresh firstOccurrences keep
+fresh-occurrences [] l C h all = refl
+fresh-occurrences (p ∷ ps) l C h all =
+    go (dec (C p)) (λ l′ D k. fresh-occurrences ps l′ D k (λ q m. all q (List·Memᴰ·tail m)))
   where
     i : InRing largest p
     i = all p (List·Memᴰ·head refl)
 
-    passes : (q : Part) → q ∈ firstComings ps → C p ≡ true → (t : Bool) → samePart q p ≡ t → not t && not (C q) ≡ not (C q)
+    passes : (q : Part) → q ∈ firstOccurrences ps → C p ≡ true → (t : Bool) → samePart q p ≡ t → not t && not (C q) ≡ not (C q)
     passes q m e true s = rw (same-eq q p s, e)
     passes q m e false s = refl
 
@@ -211,16 +211,16 @@ fresh-comings (p ∷ ps) l C h all =
 
     go : (C p ≡ true) ⊎ (C p ≡ false)
         → ((l′ : List Bool) (D : PartCommands) → Holds l′ D
-        → fresh l′ (map partCode ps) ≡ map partCode (keep (λ q. not (D q)) (firstComings ps)))
+        → fresh l′ (map partCode ps) ≡ map partCode (keep (λ q. not (D q)) (firstOccurrences ps)))
         → fresh l (partCode p ∷ map partCode ps)
-        ≡ map partCode (keep (λ q. not (C q)) (p ∷ keep (λ q. not (samePart q p)) (firstComings ps)))
+        ≡ map partCode (keep (λ q. not (C q)) (p ∷ keep (λ q. not (samePart q p)) (firstOccurrences ps)))
     go (inl e) r =
-        rw (h .at p i ∙ e, e, keep-twice (λ q. not (C q)) (λ q. not (samePart q p)) (firstComings ps))
-        (r l C h ∙ ap (map partCode) (sym (keep-ext (λ q. not (samePart q p) && not (C q)) (λ q. not (C q)) (firstComings ps)
+        rw (h .at p i ∙ e, e, keep-twice (λ q. not (C q)) (λ q. not (samePart q p)) (firstOccurrences ps))
+        (r l C h ∙ ap (map partCode) (sym (keep-ext (λ q. not (samePart q p) && not (C q)) (λ q. not (C q)) (firstOccurrences ps)
         (λ q m. passes q m e (samePart q p) refl))))
     go (inr e) r =
-        rw (h .at p i ∙ e, e, keep-twice (λ q. not (C q)) (λ q. not (samePart q p)) (firstComings ps))
+        rw (h .at p i ∙ e, e, keep-twice (λ q. not (C q)) (λ q. not (samePart q p)) (firstOccurrences ps))
         (ap (λ xs. partCode p ∷ xs)
         (r (set l (partCode p) true) (with p C) (marked-holds p i h)
-        ∙ ap (map partCode) (sym (keep-ext (λ q. not (samePart q p) && not (C q)) (λ q. not (with p C q)) (firstComings ps)
+        ∙ ap (map partCode) (sym (keep-ext (λ q. not (samePart q p) && not (C q)) (λ q. not (with p C q)) (firstOccurrences ps)
         (λ q m. excludes (samePart q p) (C q))))))

@@ -30,7 +30,7 @@ use Rattle.model.specs.Laws.Sheet.{closing-paths}
 use Rattle.theory.specs.Proofs.Paths.{Ends, path-in-ring, pathTo, tried-own, tried-at}
 use Rattle.walks.specs.Walk.{breakerBeside, busBeside, outward, outward-path}
 use Rattle.paths.specs.Search.{spanOf}
-use Rattle.sequences.specs.Marks.{markAll, fresh, Listed, fresh-append, room-front, room-behind, Holds, fresh-comings}
+use Rattle.sequences.specs.Marks.{markAll, fresh, Listed, fresh-append, room-front, room-behind, Holds, fresh-occurrences}
 
 -- the path to bus b that a choice names
 abbrev pub namedPath : ℕ → ℕ → Choice → Option Path
@@ -200,7 +200,7 @@ module _ (n : ℕ) (small : n ≤ largest) (C : PartCommands) (cs : List BusChoi
   all-are : fresh l (codesTo n cs n) ≡ map partCode (closing n C (namedPaths n cs))
   unfolding codesTo closing sequence
   all-are =
-      fresh-comings (flatMap (λ k. partsOf n (namedPaths n cs k)) (below n)) l C holds (λ p m.
+      fresh-occurrences (flatMap (λ k. partsOf n (namedPaths n cs k)) (below n)) l C holds (λ p m.
       let t = flat-at (λ k. partsOf n (namedPaths n cs k)) (below n) m in
       in-ring (t .0) _ refl (below-lt n (t .0) (t .1)) p (t .2))
 

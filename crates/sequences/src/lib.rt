@@ -99,10 +99,10 @@ fn list_path(
         (now (passed .entry)) (now (codes .entry)) end (now (passed .exit)) (now (codes .exit)) r
         ⌝ }
 {
-    let breaker = list_part(g, passed, codes, end);
-    let breakers = list_part(32 + g, passed, codes, breaker);
+    let generator_end = list_part(g, passed, codes, end);
+    let breaker_end = list_part(32 + g, passed, codes, generator_end);
     let span = paths::span_of(n, b, g, rising);
-    list_breakers(n, g, rising, span.steps, passed, codes, breakers)
+    list_breakers(n, g, rising, span.steps, passed, codes, breaker_end)
 }
 
 // The path that a choice names.
@@ -151,7 +151,7 @@ fn list_bus(
     }
 }
 
-// Stores the codes of the closing phase, which has so many, by the commands that stand and each bus's choice.
+// Stores the `count` codes of the closing phase, by the commands that stand and each bus's choice.
 pub fn closing(
     n: usize,
     old: Commands,
@@ -174,7 +174,7 @@ pub fn closing(
     let mut passed = commanded(old);
     let mut end = 0;
     for b in 0..n {
-        // What is listed is a front of the phase: as long, it is the phase.
+        // What is listed is a prefix of the phase: when it is as long, it is the phase.
         if end == count {
             return;
         }

@@ -31,7 +31,7 @@ use Rattle.model.specs.Choosing.{
   commands,
   choiceOf,
 }
-use Rattle.model.specs.Sheet.{written, opening, firstComings, partsOf, sequence, closing, sheetOf, sheet}
+use Rattle.model.specs.Sheet.{written, opening, firstOccurrences, partsOf, sequence, closing, sheetOf, sheet}
 use Rattle.model.specs.Reports.{
   allFit,
   blankRing,
@@ -772,7 +772,7 @@ record Computed : Type 0 where
 computed : Computed
 unfolding below keep first anyOf allOf partCode samePart parts healthOfKind next up arc connected feeds feeders feedBy busFeed others
     sources pathBusBreakers pathBreakers pathParts highRises pathsFrom paths onPaths usable countedClosed isolated permitted choose
-    addPath chosen plan commands choiceOf choices opening firstComings partsOf sequence closing sheetOf sheet written partNamed reported places healthOf commandsOf
+    addPath chosen plan commands choiceOf choices opening firstOccurrences partsOf sequence closing sheetOf sheet written partNamed reported places healthOf commandsOf
     healthPlaces commandPlaces blankRing told planned withPlan firstMet sizeOutside notOfRing wordOfOtherKind tooShort
     healthOutside activeAbove unplanned badRecord nextSheet reportConditions startRefusal stepRefusal allDark refusedAnswer refusedReply
     servedAnswer servedReply startReply stepReply afterWord afterWords perform performAll commandNamed withOperation operations phasesAt

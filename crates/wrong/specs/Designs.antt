@@ -1,4 +1,4 @@
--- Wrong controllers: designs that choose, command or write otherwise than document 01, and the right controller spoilt in one reply.
+-- Wrong controllers: designs that choose, command, order or write otherwise than documents 01 and 02, and the right controller spoilt in one reply.
 -- A design refuses as the controller does, by its own commands and sheets; the right design is the controller.
 use mathlib.Core.Path.{_≡_, refl, ap}
 use mathlib.Core.Bool.{Bool, not, _&&_, cond, Bool·beq}
@@ -21,7 +21,7 @@ use Rattle.model.specs.Values.{samePart, partCode}
 use Rattle.model.specs.Plant.{PartHealth, PartCommands, largest, generator, generatorBreaker, busBreaker, parts, stuckClosed}
 use Rattle.model.specs.Priority.{Path, sources, pathBusBreakers, pathParts, highPath, lowPath, paths}
 use Rattle.model.specs.Choosing.{onPaths, permitted, addPath, plan, commands, choiceOf, choices}
-use Rattle.model.specs.Sheet.{opening, firstComings, partsOf, sequence, closing, sheetOf, sheet, written}
+use Rattle.model.specs.Sheet.{opening, firstOccurrences, partsOf, sequence, closing, sheetOf, sheet, written}
 use Rattle.model.specs.Reports.{reported, allFit, places, healthOf, commandsOf, commandPlaces, blankRing, told, planned, withPlan}
 use Rattle.model.specs.Refusals.{
   firstMet,
@@ -130,7 +130,7 @@ module _ (d : Design) where
 
 -- "a part only where it first comes", of those that do not stand commanded, bus by bus
 unfoldable pub rightOrder : ℕ → PartCommands → (ℕ → List Part) → List Part
-rightOrder n old each = keep (λ p. not (old p)) (firstComings (flatMap each (below n)))
+rightOrder n old each = keep (λ p. not (old p)) (firstOccurrences (flatMap each (below n)))
 
 -- the design of documents 01 and 02
 unfoldable pub right : Design
@@ -150,7 +150,7 @@ unfolding designSheet right rightOrder nextSheet sheet closing sequence planned
 right-sheet ring =
     let H = healthOf (ring .health) in
     rw (right-commands ring)
-    (ap (λ ps. sheetOf (opening (ring .n) (commandsOf (ring .commands)) (planned ring)) (keep (λ p. not (commandsOf (ring .commands) p)) (firstComings ps)))
+    (ap (λ ps. sheetOf (opening (ring .n) (commandsOf (ring .commands)) (planned ring)) (keep (λ p. not (commandsOf (ring .commands) p)) (firstOccurrences ps)))
     (flat-ext _ _ (below (ring .n)) (λ b m. right-parts (ring .n) (plan (ring .n) H b))))
 
 right-served : (ring : Ring) (buffer : List ℕ) → designServed right ring buffer ≡ servedReply ring buffer
@@ -281,11 +281,11 @@ listsTwice = ordering (λ n old each. keep (λ p. not (old p)) (flatMap each (be
 
 -- a part that stands commanded, again
 unfoldable pub listsStanding : Design
-listsStanding = ordering (λ n old each. firstComings (flatMap each (below n)))
+listsStanding = ordering (λ n old each. firstOccurrences (flatMap each (below n)))
 
 -- buses in falling order
 unfoldable pub busesBackwards : Design
-busesBackwards = ordering (λ n old each. keep (λ p. not (old p)) (firstComings (flatMap each (reverse (below n)))))
+busesBackwards = ordering (λ n old each. keep (λ p. not (old p)) (firstOccurrences (flatMap each (reverse (below n)))))
 
 -- ---- the controller, spoilt in its replies to starts, to steps or to scans
 

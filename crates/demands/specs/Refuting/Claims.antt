@@ -5,7 +5,7 @@ use mathlib.Core.List.{List, [], _∷_, map}
 use mathlib.Core.Option.{Option, none, some}
 use Prim.Native.Nat.{ℕ, _+_, _*_}
 use lib.Dec.{ltb, eqb}
-use lib.ListN.{length, getD, take, drop}
+use lib.ListN.{length, take, drop}
 use Rattle.model.specs.declared.Part.{Part}
 use Rattle.model.specs.declared.Report.{Report}
 use Rattle.model.specs.declared.Ring.{Ring}
@@ -15,7 +15,7 @@ use Rattle.model.specs.declared.BusChoice.{BusChoice}
 use Rattle.model.specs.declared.Feed.{Feed}
 use Rattle.model.specs.declared.Feed.the-variants as feed
 use Rattle.model.specs.Lists.{below, anyOf, isNone}
-use Rattle.model.specs.Values.{number, samePart, partCode, outcomeNumber, choiceSource, choiceLetter}
+use Rattle.model.specs.Values.{number, samePart, partCode, outcomeNumber, choiceSource, choiceLetter, choiceAt}
 use Rattle.model.specs.Plant.{PartCommands, largest, parts, busFeed}
 use Rattle.model.specs.Choosing.{plan, commands, choiceOf}
 use Rattle.model.specs.Sheet.{opening, closing, sheet}
@@ -189,9 +189,7 @@ anyClash n P = anyOf (λ b. isClash (busFeed n (P .health) (P .last) b)) (below 
 -- ---- a served call's choices and phases, for the plant just before its operations
 
 unfoldable pub otherChoice : ℕ → PlantState → Reply → ℕ → Bool
-otherChoice n P reply b =
-    let d : BusChoice = record { choice = choice.Dark } in
-    differ (choiceNumber (getD (reply .answer .choices) b d .choice)) (choiceNumber (choiceOf n (plan n (P .health) b)))
+otherChoice n P reply b = differ (choiceNumber (choiceAt (reply .answer .choices) b)) (choiceNumber (choiceOf n (plan n (P .health) b)))
 
 unfoldable pub newCommands : ℕ → PlantState → PartCommands
 newCommands n P = commands n (P .health)
@@ -237,7 +235,7 @@ pub data Claim3 : Type 0 where
   size health standing health-above commands-above : Claim3
   clash-in-start-first clash-in-start-second clash-in-first clash-in-second clash-between : Claim3
 
--- each claim of demand 2, by its field
+-- each claim of demand 2, by its field; `closes-outward` is `second-is`
 pub data Claim2 : Type 0 where
   start-answered call-answered start-path call-path : Claim2
   opens all-open closes all-close opens-rising closes-outward brings-about : Claim2

@@ -7,7 +7,7 @@ use mathlib.Core.Option.{Option, none, some}
 use Prim.Native.Nat.{ℕ, zero, suc, _≤_, _<_}
 use native.Mathlib.Omega.{arith}
 use lib.Dec.{ltb, eqb}
-use lib.ListN.{length, getD, take, drop}
+use lib.ListN.{length, take, drop}
 use borrow.Author.Tests.{eq-eqb, not-true, ltb-true, lt-ltb}
 use Rattle.model.specs.declared.Part.{Part}
 use Rattle.model.specs.declared.Report.{Report}
@@ -19,7 +19,7 @@ use Rattle.model.specs.declared.Outcome.the-variants as outcome
 use Rattle.model.specs.declared.Feed.{Feed}
 use Rattle.model.specs.declared.Feed.the-variants as feed
 use Rattle.model.specs.Lists.{below, first, anyOf, isNone, _∈_, RisingBy, empty, more}
-use Rattle.model.specs.Values.{partCode, samePart, outcomeNumber, choiceSource}
+use Rattle.model.specs.Values.{partCode, samePart, outcomeNumber, choiceSource, choiceAt}
 use Rattle.model.specs.Plant.{PartHealth, largest, InRing, parts, busFeed, Reaches}
 use Rattle.model.specs.Priority.{Path}
 use Rattle.model.specs.Choosing.{permitted, choose, chosen, plan, commands, choiceOf, choices}
@@ -382,7 +382,7 @@ module _ {n : ℕ} {W : World} (g : RecordGiven n W) where
 -- ---- a served call's choices and phases
 
 module _ {n : ℕ} {P : PlantState} {reply : Reply} (small : n ≤ largest) (a : AsChosen n P reply) where
-  names : (b : ℕ) → b < n → getD (reply .answer .choices) b (record { choice = choice.Dark }) .choice ≡ choiceOf n (plan n (P .health) b)
+  names : (b : ℕ) → b < n → choiceAt (reply .answer .choices) b ≡ choiceOf n (plan n (P .health) b)
   names b hb = rw (a .choices-are) (choices-at n (P .health) b (record { choice = choice.Dark }) hb small)
 
   chosen-sound : anyOf (otherChoice n P reply) (below n) ≡ true → ⊥
@@ -622,7 +622,7 @@ module _ {n : ℕ} {P : PlantState} {reply : Reply} (s : Serves n P reply) where
   unfolding otherChoice
   path-sound e = let t = some-bus n (otherChoice n P reply) e in unequal _ _ (ap choiceNumber (named (t .0) (t .1))) (t .2)
     where
-      named : (b : ℕ) → b < n → getD (reply .answer .choices) b (record { choice = choice.Dark }) .choice ≡ choiceOf n (plan n R b)
+      named : (b : ℕ) → b < n → choiceAt (reply .answer .choices) b ≡ choiceOf n (plan n R b)
       named b hb = s .named b hb ∙ rw (path-is b hb)
 
   -- a part is on a path exactly when it is commanded

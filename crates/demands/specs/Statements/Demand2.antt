@@ -7,10 +7,9 @@ use mathlib.Core.Logic.{_↔_}
 use mathlib.Core.List.{List, [], _∷_, _++_, map}
 use mathlib.Core.Option.{Option, none, some}
 use Prim.Native.Nat.{ℕ, zero, suc, _<_}
-use lib.ListN.{length, getD}
+use lib.ListN.{length}
 use Rattle.model.specs.declared.Part.{Part}
-use Rattle.model.specs.declared.Choice.the-variants.{Dark}
-use Rattle.model.specs.Values.{partCode}
+use Rattle.model.specs.Values.{partCode, choiceAt}
 use Rattle.model.specs.Plant.{PartHealth, InRing}
 use Rattle.model.specs.Priority.{Path, pathParts, paths}
 use Rattle.model.specs.Choosing.{permitted, addPath, choiceOf}
@@ -68,7 +67,7 @@ ToClose n P f o = (o .command ≡ true) × InRing n (o .part) × (P .last (o .pa
 pub record Serves (n : ℕ) (P : PlantState) (reply : Reply) : Type 0 where
   -- each bus's path, and its name in the answer
   pub path : ℕ → Option Path
-  pub named : (b : ℕ) → b < n → getD (reply .answer .choices) b (record { choice = Dark }) .choice ≡ choiceOf n (path b)
+  pub named : (b : ℕ) → b < n → choiceAt (reply .answer .choices) b ≡ choiceOf n (path b)
   -- "each bus, in number order, gets the first way .. that the known faults and the earlier buses' ways permit"
   pub first-permitted : (b : ℕ) → b < n → FirstPermitted n (P .health) (earlier path b) (paths n b) (path b)
   -- "the orders in both waves are those that bring this about, none missing or extra", the first wave in rising code

@@ -25,7 +25,7 @@ use Rattle.model.specs.declared.Outcome.{Outcome}
 use Rattle.model.specs.declared.Outcome.the-variants as outcome
 use Rattle.model.specs.declared.Feed.the-variants as feed
 use Rattle.model.specs.Lists.{anyOf}
-use Rattle.model.specs.Values.{number, samePart, choiceSource}
+use Rattle.model.specs.Values.{number, samePart, choiceSource, choiceAt}
 use Rattle.model.specs.Plant.{PartHealth, PartCommands, smallest, largest, busFeed, InRing, Reaches}
 use Rattle.model.specs.Choosing.{plan, commands, choices}
 use Rattle.model.specs.Sheet.{opening, closing, sheet}
@@ -244,7 +244,7 @@ pub data Interrupted (c : Controller) (n : ℕ) (buffer : List ℕ) (calls : Cal
 
 -- the choice shown for bus b
 abbrev pub shownAt : World → ℕ → Choice
-shownAt W b = getD (W .shown) b (record { choice = choice.Dark }) .choice
+shownAt W b = choiceAt (W .shown) b
 
 -- "Whenever a call's orders have ended ..": of one bus
 pub record BusShown (n : ℕ) (W : World) (b : ℕ) : Type 0 where
@@ -269,7 +269,8 @@ pub record RecordGiven (n : ℕ) (W : World) : Type 0 where
 abbrev pub operation : Bool → Part → Operation
 operation c p = record { part = p; command = c }
 
--- "A served call's choices and waves are those of document 01 for the plant's health and orders just before its strokes."
+-- "A served call's choices and waves are those of document 01 for the plant's health and orders just before its strokes."; the second wave
+-- in the order of document 02, Note 4
 pub record AsChosen (n : ℕ) (P : PlantState) (reply : Reply) : Type 0 where
   pub choices-are : reply .answer .choices ≡ choices n (P .health)
   pub phases : Phases

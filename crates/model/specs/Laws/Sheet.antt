@@ -9,15 +9,15 @@ use native.Mathlib.Omega.{arith}
 use lib.ListN.{length, length-append, length-map}
 use borrow.Author.Tests.{not-true}
 use Rattle.model.specs.declared.Part.{Part}
-use Rattle.model.specs.Lists.{below, keep, _∈_}
+use Rattle.model.specs.Lists.{below, keep, _∈_, Distinct, nothing, one-more}
 use Rattle.model.specs.Values.{samePart}
 use Rattle.model.specs.Plant.{PartCommands, parts}
 use Rattle.model.specs.Priority.{Path}
-use Rattle.model.specs.Sheet.{firstComings, partsOf, sequence, closing, sheetOf}
+use Rattle.model.specs.Sheet.{firstOccurrences, partsOf, sequence, closing, sheetOf}
 use Rattle.model.specs.Laws.Tests.{contra, dec, not-of}
 use Rattle.model.specs.Laws.Lists.{below-lt, flat-ext, keep-at, keep-in}
 use Rattle.model.specs.Laws.Parts.{same-eq, same-refl}
-use Rattle.model.specs.Laws.Once.{Once, none-once, one-more, keep-once}
+use Rattle.model.specs.Laws.Distinct.{keep-distinct}
 
 -- "With k orders it is 2 + 2k bytes"
 pub sheetOf-length : (xs ys : List Part) → length (sheetOf xs ys) ≡ 2 + 2 * (length xs + length ys)
@@ -30,32 +30,32 @@ closingByCode n old new = keep (λ p. not (old p) && new p) (parts n)
 
 -- ---- "a part only where it first comes": the same parts, each once
 
-pub comings-at : (ps : List Part) {q : Part} → q ∈ firstComings ps → q ∈ ps
-unfolding firstComings
-comings-at [] m = m
-comings-at (p ∷ ps) {q} m = go (λ k. comings-at ps k) (List·Memᴰ·cases-cons m)
+pub occurrences-at : (ps : List Part) {q : Part} → q ∈ firstOccurrences ps → q ∈ ps
+unfolding firstOccurrences
+occurrences-at [] m = m
+occurrences-at (p ∷ ps) {q} m = go (λ k. occurrences-at ps k) (List·Memᴰ·cases-cons m)
   where
-    go : (q ∈ firstComings ps → q ∈ ps) → (q ≡ p) ⊎ (q ∈ keep (λ r. not (samePart r p)) (firstComings ps)) → q ∈ p ∷ ps
+    go : (q ∈ firstOccurrences ps → q ∈ ps) → (q ≡ p) ⊎ (q ∈ keep (λ r. not (samePart r p)) (firstOccurrences ps)) → q ∈ p ∷ ps
     go more (inl e) = List·Memᴰ·head e
-    go more (inr k) = List·Memᴰ·tail (more (keep-at (λ r. not (samePart r p)) (firstComings ps) k .0))
+    go more (inr k) = List·Memᴰ·tail (more (keep-at (λ r. not (samePart r p)) (firstOccurrences ps) k .0))
 
-pub comings-in : (ps : List Part) {q : Part} → q ∈ ps → q ∈ firstComings ps
-unfolding firstComings
-comings-in [] m = m
-comings-in (p ∷ ps) {q} m = go (λ k. comings-in ps k) (List·Memᴰ·cases-cons m) (dec (samePart q p))
+pub occurrences-in : (ps : List Part) {q : Part} → q ∈ ps → q ∈ firstOccurrences ps
+unfolding firstOccurrences
+occurrences-in [] m = m
+occurrences-in (p ∷ ps) {q} m = go (λ k. occurrences-in ps k) (List·Memᴰ·cases-cons m) (dec (samePart q p))
   where
-    go : (q ∈ ps → q ∈ firstComings ps) → (q ≡ p) ⊎ (q ∈ ps) → (samePart q p ≡ true) ⊎ (samePart q p ≡ false) → q ∈ firstComings (p ∷ ps)
+    go : (q ∈ ps → q ∈ firstOccurrences ps) → (q ≡ p) ⊎ (q ∈ ps) → (samePart q p ≡ true) ⊎ (samePart q p ≡ false) → q ∈ firstOccurrences (p ∷ ps)
     go more k (inl e) = List·Memᴰ·head (same-eq q p e)
     go more (inl e) (inr f) = List·Memᴰ·head e
     go more (inr k) (inr f) = List·Memᴰ·tail (keep-in (λ r. not (samePart r p)) (more k) (not-of (samePart q p) f))
 
-pub comings-once : (ps : List Part) → Once (firstComings ps)
-unfolding firstComings
-comings-once [] = none-once
-comings-once (p ∷ ps) =
+pub occurrences-once : (ps : List Part) → Distinct (firstOccurrences ps)
+unfolding firstOccurrences
+occurrences-once [] = nothing
+occurrences-once (p ∷ ps) =
     one-more
-    (λ m. contra (same-refl p) (not-true (samePart p p) (keep-at (λ r. not (samePart r p)) (firstComings ps) m .1)))
-    (keep-once (λ r. not (samePart r p)) (comings-once ps))
+    (λ m. contra (same-refl p) (not-true (samePart p p) (keep-at (λ r. not (samePart r p)) (firstOccurrences ps) m .1)))
+    (keep-distinct (λ r. not (samePart r p)) (occurrences-once ps))
 
 -- ---- the phase of other paths
 
@@ -63,4 +63,4 @@ comings-once (p ∷ ps) =
 pub closing-paths : (n : ℕ) (old : PartCommands) (f g : ℕ → Option Path) → ((b : ℕ) → b < n → f b ≡ g b) → closing n old f ≡ closing n old g
 unfolding closing sequence
 closing-paths n old f g same =
-    ap (λ ps. keep (λ p. not (old p)) (firstComings ps)) (flat-ext _ _ (below n) (λ b m. ap (partsOf n) (same b (below-lt n b m))))
+    ap (λ ps. keep (λ p. not (old p)) (firstOccurrences ps)) (flat-ext _ _ (below n) (λ b m. ap (partsOf n) (same b (below-lt n b m))))

@@ -33,7 +33,7 @@ returns-2 c =
     let d = q .before in
     let s = d .before .before in
     full (s .args .n) (s .pre .0) (commandsOf (s .args .old)) _ (s .pre .1 .0) _ (s .pre .1 .1 .0) (s .pre .1 .1 .1) _ (d .commanded .ensures) _ _
-    (q .loop .inv .1) _ _ _ (q .loop .inv .0) (c .if2 .taken)
+    (q .loop .inv .1) _ _ _ (q .loop .inv .0) (omega (arith, c .if2 .taken))
 
 mul-bus : tie.Need-mul-bus Inv-loop μ-loop
 mul-bus c = search needs

@@ -54,7 +54,7 @@ loop-less c = search needs
 
 loop-again : tie.Need-loop-again Inv-loop μ-loop
 unfolding commandsOf
-loop-again c = (holds-more _ (c .loop-test .taken) _ _ (c .before .loop .inv .0), omega arith)
+loop-again c = (holds-more _ (omega (arith, c .loop-test .taken)) _ _ (c .before .loop .inv .0), omega arith)
 
 returns : tie.Need-returns Inv-loop μ-loop
 returns c = let e : c .before .loop .i ≡ 20 = omega arith in rw e at (c .before .loop .inv .0)

@@ -40,7 +40,7 @@ list-part-requires c κs =
     let b = c .before .before in
     let q = b .before .before in
     let a = q .before .args in
-    let room = rw (codes-next (a .n) (a .rising) (q .loop .k) (a .steps) (q .loop .done) (b .before .loop-test .taken)) at (q .loop .inv .1) in
+    let room = rw (codes-next (a .n) (a .rising) (q .loop .k) (a .steps) (q .loop .done) (omega (arith, b .before .loop-test .taken))) at (q .loop .inv .1) in
     let l = breaker-lt (a .n) (a .rising) (q .loop .k) (q .loop .inv .2) in
     rw (b .breaker-beside .ensures) (omega (arith, q .before .pre), room-front _ _ (_ ∷ []) _ 60 room)
 
@@ -59,7 +59,7 @@ loop-again c =
     let b = p .before .before .before in
     let q = b .before .before in
     let a = q .before .args in
-    let next = codes-next (a .n) (a .rising) (q .loop .k) (a .steps) (q .loop .done) (b .before .loop-test .taken) in
+    let next = codes-next (a .n) (a .rising) (q .loop .k) (a .steps) (q .loop .done) (omega (arith, b .before .loop-test .taken)) in
     let here = rw (b .breaker-beside .ensures) at (p .list-part .ensures) in
     rw (c .bus-beside .ensures) (
       λ l′ d′ j rest. q .loop .inv .0 l′ d′ j (rw next (listed-more here rest)),
@@ -72,7 +72,7 @@ returns c =
     let q = c .before in
     let a = q .before .args in
     q .loop .inv .0 _ _ _
-    (rw (codes-end (a .n) (a .rising) (q .loop .k) (a .steps) (q .loop .done) (c .loop-test .left)) (listed-none _ _ _))
+    (rw (codes-end (a .n) (a .rising) (q .loop .k) (a .steps) (q .loop .done) (omega (arith, c .loop-test .left))) (listed-none _ _ _))
 
 pub list-breakers-spec : {M : Type 1} → statement M
 list-breakers-spec =

@@ -24,12 +24,11 @@ use lib.Dec.{ltb}
 use lib.ListN.{length, take, drop}
 use borrow.Author.Tests.{ltb-true, lt-ltb}
 use Rattle.model.specs.declared.Part.{Part}
-use Rattle.model.specs.Lists.{below, keep, _∈_, RisingBy, empty, more}
+use Rattle.model.specs.Lists.{below, keep, _∈_, RisingBy, empty, more, Distinct, nothing, one-more}
 use Rattle.model.specs.Values.{partCode}
 use Rattle.model.specs.CutSets.{subsets, properSubsets, ofSize, sizesBelow}
 use Rattle.model.specs.Laws.Tests.{dec}
 use Rattle.model.specs.Laws.Lists.{all-cons, below-in, below-lt, map-in, map-at, flat-in, flat-at, flat-below, keep-at, keep-in}
-use Rattle.theory.specs.Statements.Priorities.{Distinct, nothing, one-more}
 use Rattle.theory.specs.Statements.CutSets.{Sub, end, takes, skips, Proper, Earlier, here, there, Before, InOrder, no-more, then}
 
 -- every part of S is one of T

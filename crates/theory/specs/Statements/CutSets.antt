@@ -4,17 +4,16 @@ use mathlib.Core.Path.{_≡_}
 use mathlib.Core.Bool.{true, false}
 use mathlib.Core.Logic.{_⊎_, _↔_}
 use mathlib.Core.List.{List, [], _∷_, map}
-use Prim.Native.Nat.{ℕ, suc, _≤_, _<_}
+use Prim.Native.Nat.{ℕ, _≤_, _<_}
 use lib.ListN.{length}
 use Rattle.model.specs.declared.Part.{Part}
 use Rattle.model.specs.declared.Part.the-variants.{Generator, GeneratorBreaker, BusBreaker}
 use Rattle.model.specs.declared.Word.the-variants.{StuckOff, StuckOpen, StuckClosed}
 use Rattle.model.specs.declared.Report.{Report}
-use Rattle.model.specs.Lists.{_∈_, RisingBy}
+use Rattle.model.specs.Lists.{_∈_, RisingBy, Distinct}
 use Rattle.model.specs.Values.{index, partCode}
 use Rattle.model.specs.Plant.{PartHealth, InRing, generatorBreaker, busBreaker, fitGenerator, stuckOpen}
 use Rattle.model.specs.CutSets.{mostFaults, canFail, darkens, cutSets}
-use Rattle.theory.specs.Statements.Priorities.{Distinct}
 use Rattle.theory.specs.Statements.Settled.{healthAfter}
 
 -- S is T with some parts left out

@@ -1,16 +1,10 @@
 -- What a bus tries (document 01, "Ways and their ranks"). Buses and generators are indices from 0.
 use mathlib.Core.Path.{_≡_}
 use mathlib.Core.Logic.{_↔_}
-use mathlib.Core.List.{List, [], _∷_}
 use Prim.Native.Nat.{ℕ, suc, _*_, _<_}
 use lib.ListN.{length}
-use Rattle.model.specs.Lists.{_∈_}
+use Rattle.model.specs.Lists.{_∈_, Distinct}
 use Rattle.model.specs.Priority.{sources, paths}
-
--- a list without repeats
-pub data Distinct {A : Type 0} : List A → Type 0 where
-  nothing : Distinct []
-  one-more : {x : A} {xs : List A} → (x ∈ xs → ⊥) → Distinct xs → Distinct (x ∷ xs)
 
 -- what bus b tries: every generator once, and every path once, one from its own generator and two from each other
 pub record Priorities (n b : ℕ) : Type 0 where

@@ -1,5 +1,5 @@
 -- Document 02, Note 4: "Site crews follow the strokes on the lamps and want to see current advance." When an operation of the closing phase
--- comes, in the sheet's order, all that stands before its part on a chosen path is on or closed already.
+-- comes, in the sheet's order, all that stands before its part on a chosen path is commanded on or closed already.
 use mathlib.Core.Path.{_≡_, refl, _∙_, ap}
 use mathlib.Core.Bool.{Bool, true, false, not}
 use mathlib.Core.Logic.{_⊎_, inl, inr}
@@ -10,22 +10,16 @@ use Rattle.model.specs.declared.Part.{Part}
 use Rattle.model.specs.Lists.{below, keep, _∈_}
 use Rattle.model.specs.Values.{samePart}
 use Rattle.model.specs.Plant.{PartHealth, PartCommands}
-use Rattle.model.specs.Priority.{Path, pathParts}
+use Rattle.model.specs.Priority.{Path}
 use Rattle.model.specs.Choosing.{plan}
-use Rattle.model.specs.Sheet.{firstComings, partsOf, sequence, closing}
+use Rattle.model.specs.Sheet.{firstOccurrences, partsOf, sequence, closing}
 use borrow.Author.Tests.{not-false}
 use Rattle.model.specs.Laws.Tests.{never, dec}
 use Rattle.model.specs.Laws.Lists.{all-cons, below-lt}
 use Rattle.model.specs.Laws.Parts.{same-eq}
+use Rattle.theory.specs.Statements.Outward.{Behind, Follows}
 
 -- ---- lists up to an element
-
--- x stands in a list, and of all that stands before it this holds
-pub record Behind {A : Type 0} (Before : A → Type 0) (x : A) (xs : List A) : Type 0 where
-  pub front : List A
-  pub back : List A
-  pub is : xs ≡ front ++ (x ∷ back)
-  pub before : (y : A) → y ∈ front → Before y
 
 module _ {A : Type 0} where
   never-nil : {X : Type 0} (x : A) (xs ys : List A) → [] ≡ xs ++ (x ∷ ys) → X
@@ -70,18 +64,18 @@ module _ {A : Type 0} (f : A → Bool) (x : A) (ys : List A) where
       go (inr t) r = one-before z (r xs (rw t at e)) (inl t) (λ y c. c)
 
 -- a part where it first comes: all before it has come
-comes-behind : (p : Part) (qs xs ys : List Part) → firstComings qs ≡ xs ++ (p ∷ ys) → Behind (λ q. q ∈ xs) p qs
-unfolding firstComings
+comes-behind : (p : Part) (qs xs ys : List Part) → firstOccurrences qs ≡ xs ++ (p ∷ ys) → Behind (λ q. q ∈ xs) p qs
+unfolding firstOccurrences
 comes-behind p [] xs ys e = never-nil p xs ys e
 comes-behind p (q ∷ qs) [] ys e =
-    let d : q ∷ keep (λ r. not (samePart r q)) (firstComings qs) ≡ p ∷ ys = e in
+    let d : q ∷ keep (λ r. not (samePart r q)) (firstOccurrences qs) ≡ p ∷ ys = e in
     let h : q ≡ p = cc in
     at-front q qs h
 comes-behind p (q ∷ qs) (w ∷ xs) ys e =
-    let d : q ∷ keep (λ r. not (samePart r q)) (firstComings qs) ≡ w ∷ (xs ++ (p ∷ ys)) = e in
+    let d : q ∷ keep (λ r. not (samePart r q)) (firstOccurrences qs) ≡ w ∷ (xs ++ (p ∷ ys)) = e in
     let h : q ≡ w = cc in
-    let d′ : keep (λ r. not (samePart r q)) (firstComings qs) ≡ xs ++ (p ∷ ys) = cc in
-    let k = kept-behind (λ r. not (samePart r q)) p ys (firstComings qs) xs d′ in
+    let d′ : keep (λ r. not (samePart r q)) (firstOccurrences qs) ≡ xs ++ (p ∷ ys) = cc in
+    let k = kept-behind (λ r. not (samePart r q)) p ys (firstOccurrences qs) xs d′ in
     one-before q (comes-behind p qs (k .front) (k .back) (k .is)) (List·Memᴰ·head h) (λ r m. come r h (k .before r m))
   where
     come : (r : Part) → q ≡ w → (not (samePart r q) ≡ false) ⊎ (r ∈ xs) → r ∈ w ∷ xs
@@ -128,13 +122,13 @@ module _ {A : Type 0} (x : A) (ys : List A) where
 
 -- ---- the closing phase
 
--- part p of the closing phase, with the parts xs before it: on a chosen path all that stands before p was commanded on or closed, or is among xs
+-- part p of the closing phase, with the parts xs before it
 pub advances : (n : ℕ) (H : PartHealth) (old : PartCommands) (xs ys : List Part) (p : Part) → closing n old (plan n H) ≡ xs ++ (p ∷ ys)
-    → (b : ℕ) × (w : Path) × (b < n) × (plan n H b ≡ some w) × Behind (λ q. (old q ≡ true) ⊎ (q ∈ xs)) p (pathParts n w)
+    → Follows n H old xs p
 unfolding closing sequence partsOf
 advances n H old xs ys p e =
     let each : ℕ → List Part = λ b. partsOf n (plan n H b) in
-    let k = kept-behind (λ q. not (old q)) p ys (firstComings (flatMap each (below n))) xs e in
+    let k = kept-behind (λ q. not (old q)) p ys (firstOccurrences (flatMap each (below n))) xs e in
     let c = comes-behind p (flatMap each (below n)) (k .front) (k .back) (k .is) in
     let t = flat-behind p (c .back) each (below n) (c .front) (c .is) in
     go (t .0) (below-lt n (t .0) (t .1)) (plan n H (t .0)) refl
@@ -150,6 +144,6 @@ advances n H old xs ys p e =
     stands q (inr m) = inr m
 
     go : (b : ℕ) → b < n → (o : Option Path) → plan n H b ≡ o → Behind (λ q. (old q ≡ true) ⊎ (q ∈ xs)) p (partsOf n o)
-        → (c : ℕ) × (w : Path) × (c < n) × (plan n H c ≡ some w) × Behind (λ q. (old q ≡ true) ⊎ (q ∈ xs)) p (pathParts n w)
+        → Follows n H old xs p
     go b l none f k = never-nil p (k .front) (k .back) (k .is)
     go b l (some w) f k = (b, w, l, f, k)

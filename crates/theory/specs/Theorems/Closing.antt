@@ -10,16 +10,16 @@ use native.Mathlib.Omega.{arith}
 use lib.ListN.{length}
 use borrow.Author.Tests.{not-true}
 use Rattle.model.specs.declared.Part.{Part}
-use Rattle.model.specs.Lists.{below, _∈_}
+use Rattle.model.specs.Lists.{below, _∈_, Distinct}
 use Rattle.model.specs.Plant.{PartHealth, PartCommands, largest, parts, InRing}
 use Rattle.model.specs.Priority.{Path}
 use Rattle.model.specs.Choosing.{addPath, chosen, plan, commands}
-use Rattle.model.specs.Sheet.{opening, firstComings, partsOf, sequence, closing, sheetOf, sheet}
+use Rattle.model.specs.Sheet.{opening, firstOccurrences, partsOf, sequence, closing, sheetOf, sheet}
 use Rattle.model.specs.Laws.Tests.{contra, and-left, and-right, and-intro, not-of, dec-eq}
 use Rattle.model.specs.Laws.Lists.{below-in, below-lt, flat-in, flat-at, keep-at, keep-in, keep-ext, keep-apart, rising-keep}
 use Rattle.model.specs.Laws.Parts.{parts-in, parts-rise, parts-length}
-use Rattle.model.specs.Laws.Once.{Once, keep-once, rising-once, once-perm, perm-length}
-use Rattle.model.specs.Laws.Sheet.{sheetOf-length, closingByCode, comings-at, comings-in, comings-once, closing-paths}
+use Rattle.model.specs.Laws.Distinct.{keep-distinct, rising-distinct, distinct-perm, perm-length}
+use Rattle.model.specs.Laws.Sheet.{sheetOf-length, closingByCode, occurrences-at, occurrences-in, occurrences-once, closing-paths}
 use Rattle.theory.specs.Proofs.Choosing.{on-in}
 use Rattle.theory.specs.Theorems.Feeds.{commanded-at}
 use Rattle.theory.specs.Theorems.Locality.{Agree, plan-ext, commands-ext, commanded-in-ring, opening-ext}
@@ -72,17 +72,17 @@ module _ (n : ℕ) (H : PartHealth) where
       on b none l e m = absurd (List·Memᴰ·not-nil m)
       on b (some w) l e m = on-in n p (chosen-in n b l e) m
 
-      to : p ∈ firstComings (flatMap each (below n)) → commands n H p ≡ true
+      to : p ∈ firstOccurrences (flatMap each (below n)) → commands n H p ≡ true
       to m =
-          let t = flat-at each (below n) (comings-at (flatMap each (below n)) m) in
+          let t = flat-at each (below n) (occurrences-at (flatMap each (below n)) m) in
           on (t .0) (plan n H (t .0)) (below-lt n (t .0) (t .1)) refl (t .2)
 
-      from : commands n H p ≡ true → p ∈ firstComings (flatMap each (below n))
+      from : commands n H p ≡ true → p ∈ firstOccurrences (flatMap each (below n))
       from e =
           let t = commanded-at n H p e in
           let u = chosen-at n (t .1) in
           let m : p ∈ each (u .0) = rw (u .2) (t .2) in
-          comings-in (flatMap each (below n)) (flat-in each (below-in n (u .0) (u .1)) m)
+          occurrences-in (flatMap each (below n)) (flat-in each (below-in n (u .0) (u .1)) m)
 
 -- ---- the parts that close
 
@@ -98,15 +98,15 @@ module _ (n : ℕ) (H : PartHealth) (old : PartCommands) where
   unfolding closing
   closing-in p o c = keep-in (λ q. not (old q)) (sequence-exactly n H p .1 c) (not-of (old p) o)
 
-  pub closing-once : Once (closing n old (plan n H))
+  pub closing-once : Distinct (closing n old (plan n H))
   unfolding closing sequence
-  closing-once = keep-once (λ q. not (old q)) (comings-once _)
+  closing-once = keep-distinct (λ q. not (old q)) (occurrences-once _)
 
   -- the same parts as in rising code, each once: one list in another order
   pub closing-same : n ≤ largest → List·Permᴰ (closing n old (plan n H)) (closingByCode n old (commands n H))
   unfolding closingByCode
   closing-same small =
-      once-perm closing-once (rising-once (rising-keep (λ p. not (old p) && commands n H p) (parts-rise n small))) (λ p. (to p, from p))
+      distinct-perm closing-once (rising-distinct (rising-keep (λ p. not (old p) && commands n H p) (parts-rise n small))) (λ p. (to p, from p))
     where
       to : (p : Part) → p ∈ closing n old (plan n H) → p ∈ closingByCode n old (commands n H)
       to p m =

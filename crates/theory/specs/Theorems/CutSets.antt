@@ -12,7 +12,7 @@ use borrow.Author.Tests.{not-true, eq-eqb, ne-eqb}
 use Rattle.model.specs.declared.Part.{Part}
 use Rattle.model.specs.declared.Part.the-variants.{Generator, GeneratorBreaker, BusBreaker}
 use Rattle.model.specs.declared.Word.the-variants.{StuckClosed}
-use Rattle.model.specs.Lists.{below, keep, first, anyOf, allOf, isNone, _∈_, RisingBy, empty}
+use Rattle.model.specs.Lists.{below, keep, first, anyOf, allOf, isNone, _∈_, RisingBy, empty, Distinct, nothing, one-more}
 use Rattle.model.specs.Values.{partCode, samePart}
 use Rattle.model.specs.Plant.{
   PartHealth,
@@ -54,7 +54,6 @@ use Rattle.theory.specs.Theorems.Connected.{leads-mono}
 use Rattle.theory.specs.Theorems.Completeness.{de-energized-exactly}
 use Rattle.theory.specs.Theorems.Feeds.{reaches-usable, usable-reaches}
 use Rattle.theory.specs.Theorems.Priorities.{distinct-shorter}
-use Rattle.theory.specs.Statements.Priorities.{Distinct, nothing, one-more}
 use Rattle.theory.specs.Statements.CutSets.{Proper, CutSet, InOrder, Listed, Alike, Worked, worked, listedCodes}
 use Rattle.theory.specs.Statements.Settled.{healthAfter}
 use Rattle.theory.specs.Proofs.Paths.{

@@ -23,21 +23,15 @@ use native.Mathlib.Omega.{arith}
 use lib.Dec.{leb, eqb}
 use lib.ListN.{length, length-append}
 use borrow.Author.Tests.{eq-eqb, ne-eqb, not-true}
-use Rattle.model.specs.Lists.{below, keep, _∈_, RisingBy, more, empty}
+use Rattle.model.specs.Lists.{below, keep, _∈_, Distinct, nothing, one-more}
 use Rattle.model.specs.Priority.{Path, others, sources, highRises, pathsFrom, paths}
 use Rattle.model.specs.Laws.Tests.{contra, dec, dec-eq}
 use Rattle.model.specs.Laws.Lists.{below-in, below-lt, below-length, keep-at, flat-at, rising-below, rising-keep}
+use Rattle.model.specs.Laws.Distinct.{rising-distinct}
 use Rattle.theory.specs.Proofs.Paths.{sources-in, sources-at, others-at, from-at}
-use Rattle.theory.specs.Statements.Priorities.{Distinct, nothing, one-more, Priorities}
+use Rattle.theory.specs.Statements.Priorities.{Priorities}
 
 -- ---- lists without repeats
-
-pub rising-distinct : {A : Type 0} {g : A → ℕ} {xs : List A} → RisingBy g xs → Distinct xs
-rising-distinct empty = nothing
-rising-distinct {g = g} (more {x = x} {xs = xs} l r) = one-more out (rising-distinct r)
-  where
-    out : x ∈ xs → ⊥
-    out m = omega (arith, l x m)
 
 distinct-snoc : {A : Type 0} {xs : List A} {y : A} → Distinct xs → (y ∈ xs → ⊥) → Distinct (xs ++ (y ∷ []))
 distinct-snoc nothing f = one-more (λ m. List·Memᴰ·not-nil m) nothing
