@@ -21,7 +21,7 @@ use model::Choice;
 use model::Commands;
 use paths::Found;
 
-// By part code, the parts to be passed over: at first those that stand commanded on or closed, then those listed too.
+// By part code, 0 to 83, the parts to be passed over: at first those that stand commanded on or closed, then those listed too.
 fn commanded(commands: Commands) -> [bool; 84]
     ensures { λ r. ⌜ Holds r (commandsOf commands) ⌝ }
 {
