@@ -2,7 +2,7 @@
 """Makes the stored cases of the vector programs from the simulation in tests/simulation, never from our own programs.
 
     tests/make_vectors.py                       writes crates/vectors*/data/cases and stdout, and what the gate runs
-                                                ringctl, ringplant, ringtrace, ringcuts and ringscan on
+                                                ringctl, ringplant, ringtrace, ringcuts, ringscan and ringload on
     tests/make_vectors.py --seed S --out DIR    writes other cases, DIR/vectors/cases and so on; a program of stored cases
                                                 reads the file `cases` of the folder that it is run in
 
@@ -10,17 +10,25 @@ runs    fault files and their printed runs: for each 2 bytes length of the file,
         byte 0.
 plant   reckonings: n, 60 healths, 60 commands; then the number of the outcome and for each of 20 buses three bytes: 0 dark,
         1 fed, 2 a clash, and the generators named.
-step    starts and steps with damaged records and short buffers: n (and then 255 for a start), 60 healths, 60 commands, the
-        report's kind, number and word, the buffer's length; then the number of the outcome, the record, for each of 20 buses
-        the letter and source of its choice, and the buffer, which held 170 in every byte.
-cuts    minimal cut sets, with damaged records, buses outside the ring and short buffers: n, 60 healths, 60 commands, the bus,
-        2 bytes length of the buffer, low byte first, at most 1024; then the number of the outcome, 2 bytes count, low byte
-        first, and the buffer, which held 170 in every byte.
-scans   scans with any counts, bad reports at any place, damaged records and short buffers: n, 60 healths, 60 commands, the count,
-        64 places of three bytes each, a report's kind, number and word, and the buffer's length; then as in step the number of the
-        outcome, the record, the choices and the buffer, which held 170 in every byte.
+record  n, 60 healths, 60 commands, and the load: how many bookings are live, 64 places of seven bytes each, a booking's number (2
+        bytes), bus and watts (4 bytes), the watts of 20 generators and those on dark buses (4 bytes each), every number low byte first.
+step    starts and steps with damaged records and short buffers: the record, behind its n a byte, 255 for a start, the report's kind,
+        number and word, the buffer's length; then the number of the outcome, the record, for each of 20 buses the letter and source
+        of its choice, and the buffer, which held 170 in every byte.
+cuts    minimal cut sets, with damaged records, buses outside the ring and short buffers: the record, the bus, 2 bytes length of the
+        buffer, low byte first, at most 1024; then the number of the outcome, 2 bytes count, low byte first, and the buffer, which held
+        170 in every byte.
+scans   scans with any counts, bad reports at any place, damaged records and short buffers: the record, the count, 64 places of three
+        bytes each, a report's kind, number and word, and the buffer's length; then as in step the number of the outcome, the record, the
+        choices and the buffer, which held 170 in every byte.
+book    bookings and cancellations, with damaged records: the record, 0 for a booking or 1 for a cancellation, seven bytes as a place
+        has them, of which a cancellation has the number alone; then the number of the outcome and the record.
+
+The simulation has the live bookings as a list: they stand in the first places, in its order. It has nothing behind them; what stands there
+is kept, a booking takes the first place behind the live ones, and a cancellation leaves the place that it frees blank.
 """
 import argparse
+import dataclasses
 import functools
 import inspect
 import itertools
@@ -37,8 +45,8 @@ import ringsim as rs  # noqa: E402
 CRATES = os.path.join(HERE, "..", "crates")
 KINDS = (rs.GENERATOR, rs.GENERATOR_BREAKER, rs.BUS_BREAKER)
 
-# The rules that are built: document 01's with Notes 3 and 4 of document 02. Notes 1 and 2 add calls, and have no switch.
-RULES = rs.Rules(note3=True, note4=True)
+# The rules that are built: document 01's with Notes 3, 4 and 5 of document 02. Notes 1 and 2 add calls, and have no switch.
+RULES = rs.Rules(note3=True, note4=True, note5=True)
 
 
 def under(rules, *modules):
@@ -219,22 +227,90 @@ def plant(rng):
     yield reckoning(3, {c: 0 for c in rs.ALL_CODES}, {c: True for c in rs.ALL_CODES})
 
 
-def answer_bytes(answer, buffer):
+# ---- records and their loads
+
+BLANKS = (rs.Booking(0, 0, 0),) * rs.MOST_BOOKINGS      # places that no booking was ever in
+
+
+def low_first(number, size):
+    return number.to_bytes(size, "little")
+
+
+def booking_bytes(booking):
+    return low_first(booking.number, 2) + bytes([booking.bus]) + low_first(booking.watts, 4)
+
+
+def load_bytes(record, behind):
+    """The load of a record. The places behind its live bookings have what those of `behind` have."""
+    live = record.bookings
+    stand = (*live, *behind[len(live):])[:rs.MOST_BOOKINGS]
+    figures = [low_first(watts, 4) for watts in (*record.watts, record.dark_watts)]
+    return bytes([len(live)]) + b"".join(map(booking_bytes, stand)) + b"".join(figures)
+
+
+def record_bytes(record, behind=BLANKS):
+    return bytes([record.n]) + places(record.health) + places(record.orders) + load_bytes(record, behind)
+
+
+def behind_after(record, after, behind):
+    """What stands behind the live bookings after a call: a cancellation leaves the place that it frees blank."""
+    freed = len(after.bookings)
+    return behind if freed >= len(record.bookings) else (*behind[:freed], *BLANKS[:1], *behind[freed + 1:])
+
+
+def booked(record, bookings):
+    """A good record with these bookings and their figures."""
+    record.bookings = list(bookings)
+    sim.refresh_watts(record)
+    return record
+
+
+def any_watts(rng):
+    return rng.choice([1, 100000, rng.randint(1, 100000), rng.randint(1, 100000)])
+
+
+def any_bookings(rng, n, count):
+    """So many bookings, with any numbers, on any buses."""
+    numbers = rng.sample(range(rs.HIGHEST_BOOKING_NUMBER + 1), count)
+    return [rs.Booking(number, rng.randint(1, n), any_watts(rng)) for number in numbers]
+
+
+def one_a_bus(n):
+    """A booking on each bus, so that the figures tell which generator feeds it."""
+    return [rs.Booking(1000 * bus, bus, 4000 * bus + bus * bus) for bus in range(1, n + 1)]
+
+
+def loaded(n, health=None, rng=None):
+    """The record that start and steps make for this health, with any bookings, or with one on each bus."""
+    count = rng.choice([0, 1, 2, 3, 5, 8, 20, 64]) if rng else 0
+    return booked(sim.record_for(n, health), any_bookings(rng, n, count) if rng else one_a_bus(n))
+
+
+def any_behind(rng):
+    """Anything in all places, as it may stand behind the live bookings: numbers, buses and watts in bounds and out of them."""
+    return tuple(rs.Booking(rng.randrange(65536), rng.randrange(256), rng.choice([0, 1, 100001, rng.randrange(2 ** 32)]))
+                 for _ in range(rs.MOST_BOOKINGS))
+
+
+def now_and_then_behind(rng):
+    return any_behind(rng) if rng.random() < .1 else BLANKS
+
+
+def answer_bytes(answer, buffer, behind=BLANKS):
     choices = b"".join(b"-\0" if c is None else bytes([ord(c.rank), c.generator]) for c in answer.choices)
-    record = answer.record
-    return bytes([answer.refusal, record.n]) + places(record.health) + places(record.orders) + choices + bytes(buffer)
+    return bytes([answer.refusal]) + record_bytes(answer.record, behind) + choices + bytes(buffer)
 
 
 def report_bytes(report):
     return bytes([KINDS.index(report.part.kind), report.part.number, report.word])
 
 
-def stepped(record, part, word, room):
+def stepped(record, part, word, room, behind=BLANKS):
     buffer = bytearray([170] * room)
-    before = bytes([record.n, 0]) + places(record.health) + places(record.orders)
+    before = record_bytes(record, behind)
     report = rs.Report(part, word)
     answer = sim.step(record, report, buffer)
-    return before + report_bytes(report) + bytes([room]) + answer_bytes(answer, buffer)
+    return before[:1] + b"\0" + before[1:] + report_bytes(report) + bytes([room]) + answer_bytes(answer, buffer, behind)
 
 
 def steps(rng):
@@ -243,10 +319,10 @@ def steps(rng):
         for room in (0, 1, 5, 11, 12, 40, 82, 122):
             buffer = bytearray([170] * room)
             answer = sim.start(n, buffer)
-            yield bytes([n, 255]) + places(blank) + places(blank) + bytes([0, 0, 0, room]) + answer_bytes(answer, buffer)
+            yield bytes([n, 255]) + record_bytes(rs.refused_start_record())[1:] + bytes([0, 0, 0, room]) + answer_bytes(answer, buffer)
     for i in range(700):
         n = rng.choice([3, 3, 4, 5, 9, 20])
-        record = sim.record_for(n, random_health(rng, n, False))
+        record = loaded(n, random_health(rng, n, False), rng)
         damage = i % 5
         if damage == 1:
             record.orders[rng.choice(rs.ALL_CODES)] ^= True
@@ -257,7 +333,7 @@ def steps(rng):
         part = rs.Part(rng.choice(KINDS), rng.choice([0, 1, 2, 3, n, n, n + 1, 33, 255]) if i % 7 == 0 else rng.randint(1, n))
         word = rng.randrange(4)
         room = rng.choice([0, 1, 2, 3, 4, 6, 8, 12, 122]) if i % 3 == 0 else 122
-        yield stepped(record, part, word, room)
+        yield stepped(record, part, word, room, now_and_then_behind(rng))
     # "report `65 2`, started ring of three, 5 bytes" is refused by 8; "6 bytes are enough"
     for room in (5, 6):
         yield stepped(sim.record_for(3, blank), rs.Part(rs.BUS_BREAKER, 2), 2, room)
@@ -275,11 +351,11 @@ def returning_steps(rng):
             off, all_off = [("G", g, 1)], [("G", k, 1) for k in range(1, n + 1)]
             worn = [worn_health(rng, n) for _ in range(4)]
             for health in [health_with(faults) for faults in ([], off, all_off)] + worn + [{**h, **{g - 1: 1}} for h in worn]:
-                record = sim.record_for(n, health)
+                record = loaded(n, health)
                 length = scan_length(record, [report_on("G", g, 0)])
                 yield from (stepped(record, rs.Part("G", g), 0, room) for room in (length, length - 1, 122))
         for number, room in itertools.product((0, n + 1, 255), (0, 122)):
-            yield stepped(sim.record_for(n), rs.Part("G", number), 0, room)
+            yield stepped(loaded(n), rs.Part("G", number), 0, room)
     for n in (3, 8):
         for record in damaged_records(n):
             yield from (stepped(record, rs.Part("G", g), 0, room) for g, room in ((1, 122), (n, 0), (n + 1, 1)))
@@ -289,9 +365,33 @@ def outward_steps():
     """Steps whose second wave goes outward, each with a buffer as long as the sheet, and now and then with one a byte shorter."""
     for n in OUTWARD:
         for i, (faults, (kind, number, word)) in enumerate(outward_calls(n)):
-            record = sim.record_for(n, health_with(faults))
+            record = loaded(n, health_with(faults))
             length = scan_length(record, [report_on(kind, number, word)])
             yield from (stepped(record, rs.Part(kind, number), word, room) for room in (length, length - 1)[:1 if i % 5 else 2])
+
+
+def cut_off(n, bus):
+    """The faults that leave a bus dark: its generator is off, and both its bus breakers are stuck open."""
+    return [("G", bus, 1), ("BB", bus, 2), ("BB", (bus - 2) % n + 1, 2)]
+
+
+def loaded_steps(rng):
+    """Steps of records with bad loads, refused by 9; steps that cut off a bus on which something is booked, and that light it again; and of
+    full ones, whose watts all move to one generator, and go dark."""
+    for record in damaged_loads(8):
+        yield stepped(record, rs.Part("BB", 2), 2, 122)
+    for n, bus in ((3, 1), (3, 3), (4, 2), (5, 4), (8, 8), (20, 11)):
+        faults = cut_off(n, bus)
+        for last in faults:
+            kind, number, word = last
+            yield stepped(loaded(n, health_with([fault for fault in faults if fault != last])), rs.Part(kind, number), word, 122)
+            yield stepped(loaded(n, health_with(faults)), rs.Part(kind, number), 0, 122)
+    for off, number in (((1, 2), 3), ((1, 3), 2), ((2, 3), 1)):
+        full = [rs.Booking(number, number % 3 + 1, rs.MOST_WATTS) for number in range(rs.MOST_BOOKINGS)]
+        one_left = booked(sim.record_for(3, health_with([("G", off[0], 1)])), full)
+        none_left = booked(sim.record_for(3, health_with([("G", k, 1) for k in off])), full)
+        yield stepped(one_left, rs.Part("G", off[1]), 1, 122, any_behind(rng))
+        yield from (stepped(none_left, rs.Part("G", number), 1, room, any_behind(rng)) for room in (122, 0))
 
 
 MOST_ROOM = 1024
@@ -318,12 +418,12 @@ def cut_sets(n, bus, health):
     return sim.darkening_sets(n, bus, health, rs.no_locks(), is_dark=dark_by_near_ways)
 
 
-def cut_case(record, bus, room):
+def cut_case(record, bus, room, behind=BLANKS):
     """A case of the minimal cut sets."""
     buffer = bytearray([170] * room)
     number, count = sim.darkening(record, bus, buffer, is_dark=dark_by_near_ways)
-    before = bytes([record.n]) + places(record.health) + places(record.orders) + bytes([bus]) + room.to_bytes(2, "little")
-    return before + bytes([number]) + count.to_bytes(2, "little") + bytes(buffer)
+    before = record_bytes(record, behind) + bytes([bus]) + low_first(room, 2)
+    return before + bytes([number]) + low_first(count, 2) + bytes(buffer)
 
 
 def started_cuts():
@@ -347,7 +447,7 @@ def settled_cuts():
             (3, 3, [("BB", 2, 3), ("G", 3, 1), ("BB", 3, 2)], (0, 5)),                      # BB2 alone, stuck closed, can go open
             (4, 4, [("GB", 4, 3), ("BB", 3, 3), ("BB", 4, 3)], (0,)),                       # so can these three
             (20, 11, [("BB", 20, 2)] + many_off, ())):                                      # 264 sets: the high byte of the count
-        record = sim.record_for(n, health_with(faults))
+        record = loaded(n, health_with(faults))
         sheet = sheet_length(n, bus, record.health)
         yield from (cut_case(record, bus, room) for room in (*others, sheet - 1, sheet, sheet + 1))
 
@@ -361,16 +461,68 @@ def damaged_records(n):
     ordered_above = [("G", n + 1), ("GB", 20), ("BB", n + 1)]
     missing, too_many = [("G", 1), ("GB", 2), ("BB", 2)], [("G", n), ("GB", n), ("BB", 1)]
     for size in sizes:
-        record = sim.record_for(n)
+        record = loaded(n)
         record.n = size
         yield record
     for kind, number, health in of_no_kind + faulty_above + called_otherwise:
-        record = sim.record_for(n)
+        record = loaded(n)
         record.health[rs.code_of(kind, number)] = health
         yield record
     for kind, number in ordered_above + missing + too_many:
-        record = sim.record_for(n)
+        record = loaded(n)
         record.orders[rs.code_of(kind, number)] ^= True
+        yield record
+
+
+def with_a_dark_bus(n):
+    """A record with a booking on each bus, the last of which is dark."""
+    return loaded(n, health_with(cut_off(n, n)))
+
+
+def with_bad_bookings(n, bookings):
+    """A record with these bookings and their figures. What is booked on no bus of the ring is counted as dark, and watts that no four bytes
+    hold are cut off: only the bookings are bad."""
+    record = with_a_dark_bus(n)
+    stand = bookings[:rs.MOST_BOOKINGS]
+    inside = [booking for booking in stand if 1 <= booking.bus <= n]
+    outside = [booking.watts for booking in stand if booking not in inside]
+    booked(record, inside)
+    record.bookings = bookings
+    record.watts = [watts % 2 ** 32 for watts in record.watts]
+    record.dark_watts = (record.dark_watts + sum(outside)) % 2 ** 32
+    return record
+
+
+def bad_bookings(n):
+    """More than 64 live; a number live twice; a bus or watts outside the bounds."""
+    yield from ([rs.Booking(number, number % n + 1, 1) for number in range(count)] for count in (65, 255))
+    changes = [(0, {"bus": 0}), (n - 1, {"bus": n + 1}), (1, {"bus": 255}), (0, {"watts": 0}), (n - 1, {"watts": 100001}),
+               (1, {"watts": 2 ** 32 - 1}), (1, {"number": 1000}), (n - 1, {"number": 1000}), (n - 2, {"number": 1000 * n})]
+    for place, change in changes:
+        bookings = one_a_bus(n)
+        bookings[place] = dataclasses.replace(bookings[place], **change)
+        yield bookings
+
+
+def damaged_loads(n):
+    """Records of a ring below twenty, each bad in one of the ways that Note 5 of document 02 names."""
+    yield from (with_bad_bookings(n, bookings) for bookings in bad_bookings(n))
+    good = with_a_dark_bus(n)
+    for g, by in itertools.product((*range(n), n, 19), (1, -1)):
+        if good.watts[g] + by >= 0:
+            record = with_a_dark_bus(n)
+            record.watts[g] += by
+            yield record
+    for watts, dark_watts in ((good.watts, good.dark_watts + 1), (good.watts, good.dark_watts - 1),
+                              (good.watts[1::-1] + good.watts[2:], good.dark_watts),                   # exchanged
+                              ([good.watts[0] + good.dark_watts] + good.watts[1:], 0),                 # the dark bus counted as lit
+                              ([0] * 20, good.dark_watts + sum(good.watts)), ([0] * 20, 0)):
+        record = with_a_dark_bus(n)
+        record.watts, record.dark_watts = list(watts), dark_watts
+        yield record
+    for watts, dark_watts in (([1] + [0] * 19, 0), ([0] * 20, 1)):                                     # no booking is live
+        record = sim.record_for(n)
+        record.watts, record.dark_watts = watts, dark_watts
         yield record
 
 
@@ -379,8 +531,10 @@ def refused_cuts():
     for n in (3, 6):
         for record in damaged_records(n):
             yield from (cut_case(record, bus, room) for bus, room in ((1, 40), (n, 0), (0, 40), (n + 1, 1), (255, 0)))
+    for k, record in enumerate(damaged_loads(6)):
+        yield cut_case(record, (1, 6, 0, 7)[k % 4], 40)
     for n in (3, 6, 20):
-        record = sim.record_for(n)
+        record = loaded(n)
         yield from (cut_case(record, bus, room) for bus in (0, n + 1, 21, 128, 255) for room in (0, 1, 40))
 
 
@@ -395,13 +549,14 @@ def worn_cuts(rng):
     """Rings with any faults: buffers as long as the sheet, a byte shorter, longer and very short; now and then a record is damaged, or a
     bus is outside the ring."""
     for n in [3, 4, 5, 6, 7, 8] * 50 + [9, 10, 11, 12, 13] * 6 + [14, 16, 20]:
-        record, bus = sim.record_for(n, worn_health(rng, n)), rng.randint(1, n)
+        record, bus = loaded(n, worn_health(rng, n), rng), rng.randint(1, n)
         sheet = sheet_length(n, bus, record.health)
         if rng.random() < .05:
             record.orders[rng.choice(rs.ALL_CODES)] ^= True
         if rng.random() < .05:
             bus = rng.choice([0, n + 1, 255])
-        yield cut_case(record, bus, rng.choice([sheet, sheet, sheet, sheet - 1, sheet + rng.randint(1, 40), rng.randint(0, 4)]))
+        room = rng.choice([sheet, sheet, sheet, sheet - 1, sheet + rng.randint(1, 40), rng.randint(0, 4)])
+        yield cut_case(record, bus, room, now_and_then_behind(rng))
 
 
 def cuts(rng):
@@ -444,10 +599,11 @@ def with_report(reports, place, report):
 def scan_case(rng, record, reports, count, room):
     """A case of a scan. The places behind its reports hold any others, which must not be read."""
     scanned = reports + [any_report(rng) for _ in range(rs.MOST_SCANNED - len(reports))]
-    before = bytes([record.n]) + places(record.health) + places(record.orders) + bytes([count])
+    behind = now_and_then_behind(rng)
+    before = record_bytes(record, behind) + bytes([count])
     buffer = bytearray([170] * room)
     answer = sim.scan(record, scanned, count, buffer)
-    return before + b"".join(map(report_bytes, scanned)) + bytes([room]) + answer_bytes(answer, buffer)
+    return before + b"".join(map(report_bytes, scanned)) + bytes([room]) + answer_bytes(answer, buffer, behind)
 
 
 def scan_length(record, reports):
@@ -479,7 +635,7 @@ def with_rooms(record, reports):
 def counted_scans(rng):
     """Each edge of the count; one above 64 is refused by 11, before bad reports and short buffers."""
     for n in RINGS:
-        record = sim.record_for(n, worn_health(rng, n))
+        record = loaded(n, worn_health(rng, n), rng)
         for count in (0, 1, 2, 63, 64):
             yield from with_rooms(record, good_reports(rng, n, count))
         for count in (65, 128, 255):
@@ -491,7 +647,7 @@ def bad_scans(rng):
     """A bad report of each flaw at each place of a full scan; then at the last place that is counted and at the first that is not."""
     for place in range(rs.MOST_SCANNED):
         n, one = RINGS[place % len(RINGS)], place // len(RINGS) % 4
-        record, reports = sim.record_for(n), good_reports(rng, n, rs.MOST_SCANNED)
+        record, reports = loaded(n), good_reports(rng, n, rs.MOST_SCANNED)
         for flaw, bad in enumerate(bad_reports(rng, n)):
             yield record, with_report(reports, place, bad), rs.MOST_SCANNED, 0 if flaw == one else 40
         bad = bad_reports(rng, n)[one]
@@ -508,15 +664,15 @@ def twice_bad_scans(rng):
             count = rng.randint(2, rs.MOST_SCANNED)
             before, behind = sorted(rng.sample(range(count), 2))
             reports = with_report(with_report(good_reports(rng, n, count), before, one), behind, other)
-            yield from ((sim.record_for(n), reports, count, room) for room in (0, 40))
+            yield from ((loaded(n), reports, count, room) for room in (0, 40))
 
 
 def settled_scans():
     """Scans that Note 2 of document 02 speaks of, or that its readers may stumble over."""
     for n in (3, 5, 20):
-        started, parts = sim.record_for(n), [rs.part_of_code(code) for code in rs.codes_of_ring(n)]
+        started, parts = loaded(n), [rs.part_of_code(code) for code in rs.codes_of_ring(n)]
         breakers = [part for part in parts if part.kind != "G"]
-        stuck = sim.record_for(n, {part.code: 2 + part.number % 2 for part in breakers})
+        stuck = loaded(n, {part.code: 2 + part.number % 2 for part in breakers})
         for record, reports in (
                 (started, [("BB", 2, 2), ("BB", 2, 3), ("BB", 2, 2)]),                     # the last word decides
                 (started, [("BB", 2, 2), ("GB", 1, 3), ("BB", 2, 3), ("GB", 1, 2)]),
@@ -554,7 +710,7 @@ def returning_scans():
                 (all_off, [("GB", 1, 3), ("G", 1, 0), ("BB", n, 3), ("G", 2, 0)]),
                 (first + [("BB", 1, 3)], [("BB", 1, 0), ("G", 1, 0)]),                     # with a breaker's return
                 ([], in_turn), (all_off, in_turn), (stuck, in_turn), (all_off, [("G", 1, k % 2) for k in range(64)])):
-            yield from with_rooms(sim.record_for(n, health_with(faults)), [report_on(*report) for report in reports])
+            yield from with_rooms(loaded(n, health_with(faults)), [report_on(*report) for report in reports])
 
 
 def outward_scans():
@@ -569,7 +725,7 @@ def outward_scans():
             cuts = [("BB", cut, 2), ("BB", across(n, cut), 2)]
             calls.append((n, all_off_but(n) + cuts, [("G", source, 0), ("G", across(n, source), 0)]))
     for i, (n, faults, reports) in enumerate(calls):
-        yield from with_rooms(sim.record_for(n, health_with(faults)), [report_on(*report) for report in reports])[:1 if i % 5 else 2]
+        yield from with_rooms(loaded(n, health_with(faults)), [report_on(*report) for report in reports])[:1 if i % 5 else 2]
 
 
 def own_sheet_scans(rng):
@@ -577,7 +733,7 @@ def own_sheet_scans(rng):
     shorter, longer = [], []
     while min(len(shorter), len(longer)) < 24:
         n = rng.choice(RINGS)
-        record, reports = sim.record_for(n, worn_health(rng, n)), good_reports(rng, n, rng.randint(2, 12))
+        record, reports = loaded(n, worn_health(rng, n), rng), good_reports(rng, n, rng.randint(2, 12))
         own, step = scan_length(record, reports), longest_step(record, reports)
         if own < step:
             shorter.append((record, reports, len(reports), rng.randrange(own, step)))
@@ -593,12 +749,15 @@ def refused_scans(rng):
             count = (0, 1, 2, 63, 64)[k % 5]
             yield record, good_reports(rng, n, count), count, 40
             yield record, bad_reports(rng, n), (4, 64, 65, 255)[k % 4], 0
+    for k, record in enumerate(damaged_loads(3)):
+        count = (0, 1, 2, 64, 65)[k % 5]
+        yield record, good_reports(rng, 3, min(count, 64)), count, 40
 
 
 def listed_scans(rng):
     """Long lists of scans and steps, each with the record last given; among the scans are refused ones."""
     for n in RINGS:
-        record = sim.record_for(n)
+        record = loaded(n)
         for k in range(50):
             reports = good_reports(rng, n, rng.choice([0, 1, 2, 3, 5, 8, 20, 64]))
             if k % 2:
@@ -615,6 +774,125 @@ def scans(rng):
     calls = itertools.chain(counted_scans(rng), bad_scans(rng), twice_bad_scans(rng), settled_scans(), returning_scans(),
                             outward_scans(), own_sheet_scans(rng), refused_scans(rng), listed_scans(rng))
     return (scan_case(rng, *call) for call in calls)
+
+
+# ---- bookings and cancellations
+
+class Desk:
+    """A record and what stands behind its live bookings. Each call is a case, and goes on from the record that the last one gave."""
+
+    def __init__(self, record, behind=BLANKS):
+        self.record, self.behind = record, behind
+
+    def called(self, kind, booking, refusal, after):
+        case = record_bytes(self.record, self.behind) + bytes([kind]) + booking_bytes(booking) + bytes([refusal])
+        self.behind = behind_after(self.record, after, self.behind)
+        self.record = after
+        return case + record_bytes(self.record, self.behind)
+
+    def book(self, number, bus, watts):
+        return self.called(0, rs.Booking(number, bus, watts), *sim.book(self.record, number, bus, watts))
+
+    def cancel(self, number):
+        return self.called(1, rs.Booking(number, 0, 0), *sim.cancel(self.record, number))
+
+    def step(self, report):
+        """A step between the calls: no case of these."""
+        self.record = sim.step(self.record, report, bytearray(rs.LONGEST_SHEET)).record
+
+
+def full_places(rng):
+    """64 are booked, one after the other, and a 65th is refused; places that are freed serve again."""
+    desk = Desk(loaded(5), any_behind(rng))
+    numbers = [booking.number for booking in desk.record.bookings]
+    while len(numbers) < rs.MOST_BOOKINGS:
+        numbers.append(len(numbers))
+        yield desk.book(numbers[-1], rng.randint(1, 5), any_watts(rng))
+    yield desk.book(64, 1, 1)
+    for place in (0, 63, 31):
+        number = numbers.pop(place)
+        numbers.append(number + 100)
+        yield from (desk.cancel(number), desk.cancel(number), desk.book(numbers[-1], 2, 500), desk.book(65535, 3, 500))
+    yield from (desk.book(numbers[0], 1, 1), desk.book(numbers[-1], 1, 1))
+
+
+def edges():
+    """Numbers, buses and watts at the edges of what is served, and beyond them."""
+    for n in (3, 20):
+        desk = Desk(loaded(n))
+        numbers = (0, 65535, 1, 255, 256, 257, 65280)
+        yield from (desk.book(number, 1, 1) for number in numbers)
+        yield from (desk.book(number, 2, 2) for number in (0, 65535, 512, 256))
+        yield from (desk.cancel(number) for number in (0, 65535, 0, 65535, 2, 65281, 256, 1000 * n))
+        yield from (desk.book(number, 2, 2) for number in (0, 65535))
+        for bus in (0, 1, n - 1, n, n + 1, 21, 128, 255):
+            yield desk.book(300 + bus, bus, 20)
+        for watts in (0, 1, 2, 65535, 65536, 99999, 100000, 100001, 165536, 2 ** 24, 2 ** 31, 2 ** 32 - 1):
+            yield desk.book(watts % 65521, n, watts)
+
+
+def refusals_in_turn():
+    """Calls that meet one condition of a refusal or several: a damaged record, a bus and watts outside their bounds, a number that is live
+    where it must not be or not where it must, and 64 live."""
+    for damaged, bus, watts, live, full in itertools.product((False, True), (2, 0), (10, 0), (False, True), (False, True)):
+        bookings = one_a_bus(5) + [rs.Booking(k, k % 5 + 1, 7) for k in range(59 if full else 0)]
+        desk = Desk(booked(sim.record_for(5), bookings))
+        desk.record.dark_watts += damaged
+        number = 5000 if live else 5001
+        yield desk.book(number, bus, watts)
+        if (bus, watts) == (2, 10):
+            yield desk.cancel(number)
+
+
+def bookings_of_damaged_records():
+    """9 before everything else: records damaged in each of the ways, old and new."""
+    for n in (3, 8):
+        for k, record in enumerate(itertools.chain(damaged_records(n), damaged_loads(n))):
+            yield Desk(record).book(1000 if k % 3 else 7, 0 if k % 4 == 1 else 1, 0 if k % 5 == 1 else 100)
+            yield Desk(record).cancel(1000 if k % 3 else 7)
+
+
+def behind_the_live_places(rng):
+    """What stands behind the live bookings is neither live nor looked at: numbers that stand there are free, and are not cancelled."""
+    for n in (3, 12):
+        live, behind = one_a_bus(n), any_behind(rng)
+        same = (*live, *live, *BLANKS)[:rs.MOST_BOOKINGS]           # behind the live ones they stand once more
+        for stand, number in ((behind, behind[n].number), (behind, behind[63].number), (same, 1000), (same, 999), (BLANKS, 0)):
+            yield Desk(loaded(n), stand).book(number, n, 100)
+            yield Desk(loaded(n), stand).cancel(number)
+            yield Desk(sim.record_for(n), stand).cancel(number)
+        desk = Desk(loaded(n), behind)
+        yield from (desk.cancel(1000 * bus) for bus in range(1, n + 1))
+        yield from (desk.book(1000 * bus, bus, bus) for bus in range(1, n + 1))
+
+
+def bookings_on_dark_buses():
+    """Bookings and cancellations on a bus that is dark, and in a ring that is."""
+    for n in (3, 5, 20):
+        for faults in (cut_off(n, n), all_off_but(n)):
+            desk = Desk(loaded(n, health_with(faults)))
+            yield from (desk.book(1, n, 100000), desk.book(2, 1, 1), desk.cancel(1000 * n), desk.cancel(1000), desk.book(1000, n, 3))
+
+
+def listed_bookings(rng):
+    """Lists of bookings and cancellations in rings of every size, with steps between them that move what is booked, and lay it dark."""
+    for n in range(3, 21):
+        record = booked(sim.record_for(n, worn_health(rng, n)), any_bookings(rng, n, rng.choice([0, 3, 8])))
+        desk = Desk(record, any_behind(rng) if n % 4 == 0 else BLANKS)
+        for k in range(9):
+            live, books = [booking.number for booking in desk.record.bookings], k % 3 < 2
+            number = rng.choice(live) if live and rng.random() < (.2 if books else k / 8) else rng.randrange(65536)
+            if books:
+                bus, watts = rng.randint(0 if rng.random() < .1 else 1, n), 0 if rng.random() < .1 else any_watts(rng)
+                yield desk.book(number, bus, watts)
+            else:
+                yield desk.cancel(number)
+            desk.step(good_report(rng, n))
+
+
+def bookings(rng):
+    return itertools.chain(full_places(rng), edges(), refusals_in_turn(), bookings_of_damaged_records(), behind_the_live_places(rng),
+                           bookings_on_dark_buses(), listed_bookings(rng))
 
 
 def feed_words(answer):
@@ -705,6 +983,50 @@ def scans_text(n, calls):
     return "".join(lines)
 
 
+# What a call of ringload is, by the word that it is printed with: its kind, and the bytes that it takes.
+LOAD_CALLS = {
+    "report": (0, report_bytes),
+    "scan": (1, lambda *reports: scans_file(0, [reports])[1:]),
+    "book": (2, lambda number, bus, watts: booking_bytes(rs.Booking(number, bus, watts))),
+    "cancel": (3, lambda number: low_first(number, 2)),
+}
+
+
+def loads_file(n, calls):
+    """What ringload reads: n, then for each call, a word and what it takes, the number of its kind and 193 bytes."""
+    entries = [(LOAD_CALLS[word][0], LOAD_CALLS[word][1](*taken)) for word, *taken in calls]
+    return bytes([n]) + b"".join(bytes([kind]) + data.ljust(193, b"\0") for kind, data in entries)
+
+
+def load_answers(n, calls):
+    """The simulation's answers to the start and to calls, each with the record that the call before it gave: the word, the refusal, the
+    record, and the line of the run without its number, where the call has one."""
+    sheet = bytearray(rs.LONGEST_SHEET)
+    answer = sim.start(n, sheet)
+    record, word, refusal, switched = answer.record, "start", answer.refusal, answer
+    yield word, refusal, record, "" if refusal else rs.line_of_run(0, n, answer.choices, sheet)[2:-1]
+    for word, *taken in calls if not refusal else []:
+        if word in ("book", "cancel"):
+            refusal, record = getattr(sim, word)(record, *taken)
+            switched = None
+        else:
+            switched = sim.step(record, *taken, sheet) if word == "report" else sim.scan(record, taken, len(taken), sheet)
+            refusal, record = switched.refusal, switched.record
+        yield word, refusal, record, rs.line_of_run(0, n, switched.choices, sheet)[2:-1] if switched and not refusal else ""
+
+
+def figures_text(record):
+    """The watts of a ring's generators, and those on dark buses."""
+    return " ".join("G%d %d" % figure for figure in enumerate(record.watts[:record.n], start=1)) + " dark %d" % record.dark_watts
+
+
+def loads_text(n, calls):
+    """What ringload prints."""
+    lines = ["refused %d" % refusal if refusal else "%s%s / %s" % (word, run and " " + run, figures_text(record))
+             for word, refusal, record, run in load_answers(n, calls)]
+    return "\n".join(lines) + "\n"
+
+
 def gate_plant():
     """A ring of twelve with a clash, buses fed by one generator and dark ones, over stuck breakers of both kinds."""
     health = {code: 0 for code in rs.ALL_CODES}
@@ -749,6 +1071,22 @@ def gate_scans():
     return 5, [[report_on(*report) for report in reports] for reports in calls]
 
 
+def gate_loads():
+    """A ring of five and its calls."""
+    calls = [("book", 0, 1, 1), ("book", 65535, 5, 100000), ("book", 3, 3, 1200), ("book", 4, 4, 65536)]    # on four buses
+    calls += [("book", 3, 1, 5), ("book", 5, 0, 5), ("book", 5, 6, 5), ("book", 5, 5, 0), ("book", 5, 5, 100001)]  # refused by 13, 10, 12
+    calls += [("cancel", 5), ("cancel", 3), ("cancel", 3), ("book", 3, 3, 7)]           # refused by 13; cancelled, and booked again
+    calls += [("report", report_on("BB", 2, 2)), ("report", report_on("BB", 4, 2)), ("report", report_on("GB", 5, 1)),
+              ("scan", report_on("G", 5, 1), report_on("BB", 5, 2)),                     # B5 goes dark with what is booked on it
+              ("scan",), ("scan", report_on("G", 1, 1), report_on("G", 6, 1)), ("scan", *[report_on("BB", 5, 0)] * 65),
+              ("report", report_on("BB", 5, 3)), ("scan", *[report_on("G", k, 1) for k in range(1, 6)]),    # every bus dark
+              ("report", report_on("G", 3, 0))]
+    calls += [("book", 1000 + k, k % 5 + 1, 100 * k + 1) for k in range(60)]            # 64 are live
+    calls += [("book", 1, 1, 1), ("book", 0, 1, 1)]                                     # refused by 14 and 13
+    calls += [("cancel", 1030), ("book", 1, 1, 1), ("book", 2, 1, 1)]                   # its place serves again; refused by 14
+    return 5, calls + [("report", report_on("G", 1, 0)), ("report", report_on("BB", 2, 0)), ("cancel", 65535)]
+
+
 def write(path, data):
     os.makedirs(os.path.dirname(path), exist_ok=True)
     with open(path, "wb") as out:
@@ -760,14 +1098,15 @@ def all_cases(seeds, started):
     yield "vectors", list(runs(random.Random(seeds[0])))
     yield "vectors_plant", list(plant(random.Random(seeds[1])))
     rng = random.Random(seeds[2])
-    yield "vectors_step", list(itertools.chain(steps(rng), returning_steps(rng), outward_steps()))
+    yield "vectors_step", list(itertools.chain(steps(rng), returning_steps(rng), outward_steps(), loaded_steps(rng)))
     yield "vectors_cuts", list(itertools.chain(started, cuts(random.Random(seeds[3]))))
     yield "vectors_scan", list(scans(random.Random(seeds[4])))
+    yield "vectors_book", list(bookings(random.Random(seeds[5])))
 
 
 def stored_files():
     """The files that are stored below crates/, and their bytes."""
-    for crate, cases in all_cases([1, 2, 3, 4, 5], started_cuts()):
+    for crate, cases in all_cases([1, 2, 3, 4, 7, 6], started_cuts()):
         yield os.path.join(crate, "data", "cases"), b"".join(cases)
         yield os.path.join(crate, "stdout"), b"%d cases, 0 differ\n" % len(cases)
     yield os.path.join("ringctl", "stdin"), GATE_RUN
@@ -781,6 +1120,8 @@ def stored_files():
     yield os.path.join("ringcuts", "stdout"), cuts_text(GATE_CUTS).encode()
     yield os.path.join("ringscan", "stdin"), scans_file(*gate_scans())
     yield os.path.join("ringscan", "stdout"), scans_text(*gate_scans()).encode()
+    yield os.path.join("ringload", "stdin"), loads_file(*gate_loads())
+    yield os.path.join("ringload", "stdout"), loads_text(*gate_loads()).encode()
 
 
 def store():
@@ -791,7 +1132,7 @@ def store():
 
 def make_others(seed, folder):
     """Other cases, drawn by a seed."""
-    for crate, cases in all_cases(["%s %d" % (seed, k) for k in range(5)], []):
+    for crate, cases in all_cases(["%s %d" % (seed, k) for k in range(6)], []):
         write(os.path.join(folder, crate, "cases"), b"".join(cases))
         print("%s: %d cases" % (crate, len(cases)))
 

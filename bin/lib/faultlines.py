@@ -20,6 +20,9 @@ WORDS = ("fit", "stuck off", "stuck open", "stuck closed")
 # The lines that a scan stands between.
 SCAN_WORDS = ("scan", "end")
 
+# The words that a booking's line and a cancellation's begin with.
+LOAD_WORDS = ("book", "cancel")
+
 # The words that each kind of part takes.
 WORDS_OF_KIND = {"G": ("fit", "stuck off"), "GB": ("fit", "stuck open", "stuck closed"), "BB": ("fit", "stuck open", "stuck closed")}
 
@@ -48,7 +51,7 @@ def number_in(text, most, what):
     """A decimal number, at most so large."""
     if not re.fullmatch("[0-9]+", text):
         raise Mistake("%s is a number from 0 to %d" % (what, most))
-    if len(text.lstrip("0")) > 5 or int(text) > most:
+    if len(text.lstrip("0")) > len(str(most)) or int(text) > most:
         raise Mistake("%s is at most %d" % (what, most))
     return int(text)
 
@@ -82,7 +85,9 @@ def word_number(texts):
 def report_in(texts, size):
     """The code and the word of a report's line."""
     if texts[0].lower() in SCAN_WORDS:
-        raise Mistake("scans are read by bin/ringscan")
+        raise Mistake("scans are read by bin/ringscan and bin/ringload")
+    if texts[0].lower() in LOAD_WORDS:
+        raise Mistake("bookings are read by bin/ringload")
     if texts[0].lower() == "code" and len(texts) > 1:
         return number_in(texts[1], 255, "a code"), word_number(texts[2:])
     return part_code(texts[0], size), word_number(texts[1:])

@@ -10,6 +10,7 @@ for folder in ("bin/lib", "tests", "tests/simulation"):
 sys.dont_write_bytecode = True
 import faultlines  # noqa: E402, F401
 import make_vectors  # noqa: E402, F401
+import ringload  # noqa: E402, F401
 import ringsim  # noqa: E402, F401
 from make_vectors import RULES, sim  # noqa: E402, F401
 
@@ -60,15 +61,20 @@ def stored_runs():
         at = end + 1
 
 
+def number_of(data):
+    """A number, low byte first."""
+    return int.from_bytes(data, "little")
+
+
 class CutCase:
     """A stored case of the minimal cut sets."""
 
     def __init__(self, data, at):
-        self.n, self.health, self.bus = data[at], data[at + 1:at + 61], data[at + 121]
-        self.room = int.from_bytes(data[at + 122:at + 124], "little")
-        self.number, self.count = data[at + 124], int.from_bytes(data[at + 125:at + 127], "little")
-        self.end = at + 127 + self.room
-        self.buffer = data[at + 127:self.end]
+        self.n, self.health, self.bus = data[at], data[at + 1:at + 61], data[at + 654]
+        self.room = number_of(data[at + 655:at + 657])
+        self.number, self.count = data[at + 657], number_of(data[at + 658:at + 660])
+        self.end = at + 660 + self.room
+        self.buffer = data[at + 660:self.end]
 
     def sets(self):
         """The sets in the sheet of a served case, as tuples of codes."""
@@ -89,10 +95,22 @@ def stored_cuts():
         at = case.end
 
 
+def booking_of(data):
+    """A booking of a stored case."""
+    return ringsim.Booking(number_of(data[:2]), data[2], number_of(data[3:7]))
+
+
+def places_of(data):
+    """The 64 places of the bookings of a stored case's record, also those behind the live ones."""
+    return [booking_of(data[at:at + 7]) for at in range(122, 570, 7)]
+
+
 def record_of(data):
-    """A record of a stored case."""
+    """A record of a stored case, of 654 bytes. Where more than 64 are live, the first booking stands for those that have no place."""
     health, orders = dict(zip(ringsim.ALL_CODES, data[1:61])), dict(zip(ringsim.ALL_CODES, map(bool, data[61:121])))
-    return ringsim.Record(data[0], health, orders)
+    stand, live = places_of(data), data[121]
+    watts = [number_of(data[at:at + 4]) for at in range(570, 654, 4)]
+    return ringsim.Record(data[0], health, orders, bookings=(stand + stand[:1] * live)[:live], watts=watts[:20], dark_watts=watts[20])
 
 
 def report_of(data):
@@ -100,15 +118,26 @@ def report_of(data):
     return ringsim.Report(ringsim.Part(make_vectors.KINDS[data[0]], data[1]), data[2])
 
 
+class StepCase:
+    """A stored case of a start or a step."""
+
+    def __init__(self, data):
+        self.is_start, self.before, self.expected = data[1] == 255, data[:1] + data[2:655], data[660:1314]
+        self.call, self.record, self.report = data[:658], record_of(self.before), report_of(data[655:658])
+        self.room, self.number, self.after = data[658], data[659], record_of(self.expected)
+        self.choices, self.buffer = data[1314:1354], data[1354:]
+
+
 class ScanCase:
     """A stored case of a scan."""
 
     def __init__(self, data):
-        self.record, self.count = record_of(data[:121]), data[121]
-        self.places = [report_of(data[at:at + 3]) for at in range(122, 314, 3)]
+        self.before, self.expected = data[:654], data[849:1503]
+        self.record, self.count = record_of(self.before), data[654]
+        self.places = [report_of(data[at:at + 3]) for at in range(655, 847, 3)]
         self.reports = self.places[:self.count]
-        self.room, self.number, self.after = data[314], data[315], record_of(data[316:437])
-        self.choices, self.buffer = data[437:477], data[477:]
+        self.room, self.number, self.after = data[847], data[848], record_of(self.expected)
+        self.choices, self.buffer = data[1503:1543], data[1543:]
 
     def flaws(self):
         """The refusal of each place's report by itself, 0 where it is good."""
@@ -118,6 +147,15 @@ class ScanCase:
         """The sheet of a served case, and the bytes behind it."""
         end = 2 + 2 * (self.buffer[0] + self.buffer[1])
         return self.buffer[:end], self.buffer[end:]
+
+
+class BookCase:
+    """A stored case of a booking or a cancellation."""
+
+    def __init__(self, data):
+        self.before, self.expected = data[:654], data[663:1317]
+        self.record, self.is_booking, self.booking = record_of(self.before), data[654] == 0, booking_of(data[655:662])
+        self.number, self.after = data[662], record_of(self.expected)
 
 
 def way_of(n, bus, source, letter):
@@ -147,11 +185,39 @@ def simulated_scans(data, together=False):
     return make_vectors.scans_text(size, [sum(reports, [])] if together else reports).encode()
 
 
-# Of the programs whose cases end in the bytes of a buffer: the bytes before those, the first that is expected, and the room of the buffer.
+def load_call(call):
+    """A call of bin/ringload as the simulation is asked: a word, and what it takes."""
+    if call.kind == ringload.BOOKING:
+        return "book", call.number, call.bus, call.watts
+    if call.kind == ringload.CANCELLATION:
+        return "cancel", call.number
+    return ("report" if call.kind == ringload.REPORT else "scan", *[ringsim.report_of(*report) for report in call.call.reports])
+
+
+def simulated_loads(data, with_run=False):
+    """The simulation's answer to readable lines with bookings, in the columns of bin/ringload: the calls, a space more than two behind the
+    longest, and the figures, two spaces behind the widest of each."""
+    size, calls = ringload.calls_of(data)
+    texts = ["ring %d" % size] + [call.text() for call in calls]
+    answers = list(make_vectors.load_answers(size, map(load_call, calls)))
+    figures = [["G%d %d" % figure for figure in enumerate(record.watts[:size], start=1)] + ["dark %d" % record.dark_watts]
+               for _, _, record, _ in answers]
+    wide = [max(len(row[k]) for row, answer in zip(figures, answers) if not answer[1]) for k in range(size + 1) if not answers[0][1]]
+    text = ""
+    for words, row, (_, refusal, _, line) in zip(texts, figures, answers):
+        columns = ["refused %d" % refusal] if refusal else ["%-*s" % pair for pair in zip(wide, row)]
+        text += "%-*s   %s" % (max(map(len, texts[:len(answers)])), words, "  ".join(columns).rstrip()) + "\n"
+        text += "    %s\n" % line if line and with_run else ""
+    return text.encode()
+
+
+# Of the programs whose cases hold a record: the bytes of a case before those of its buffer, the first that is expected, and the room of the
+# buffer; a booking has none.
 LAYOUTS = {
-    "vectors_step": (288, 126, lambda case: case[125]),
-    "vectors_scan": (477, 315, lambda case: case[314]),
-    "vectors_cuts": (127, 124, lambda case: int.from_bytes(case[122:124], "little")),
+    "vectors_step": (1354, 659, lambda case: case[658]),
+    "vectors_scan": (1543, 848, lambda case: case[847]),
+    "vectors_cuts": (660, 657, lambda case: number_of(case[655:657])),
+    "vectors_book": (1317, 662, lambda case: 0),
 }
 
 

@@ -8,7 +8,7 @@ import itertools
 import re
 import unittest
 
-from support import LAYOUTS, ScanCase, make_vectors, outward, read, record_of, ringsim, sim, stored_cases, stored_runs, way_of, ways_in
+from support import ScanCase, StepCase, make_vectors, outward, read, ringsim, sim, stored_cases, stored_runs, way_of, ways_in
 
 RINGS = tuple(make_vectors.OUTWARD)
 CODES = {ringsim.name_of(code): code for code in ringsim.ALL_CODES}
@@ -117,13 +117,10 @@ def sheet_wave(record, choices, sheet):
 
 def served_calls():
     """Of each stored start, step and scan that is served: the record before it, that after it, the choices and the buffer."""
-    size, number, _ = LAYOUTS["vectors_step"]
-    for case in stored_cases("vectors_step"):
-        if case[number] == 0:
-            yield "steps", record_of(case[:1] + case[2:122]), record_of(case[number + 1:size - 40]), case[size - 40:size], case[size:]
-    for case in map(ScanCase, stored_cases("vectors_scan")):
-        if case.number == 0:
-            yield "scans", case.record, case.after, case.choices, case.buffer
+    for kind, read_case, name in (("steps", StepCase, "vectors_step"), ("scans", ScanCase, "vectors_scan")):
+        for case in map(read_case, stored_cases(name)):
+            if case.number == 0:
+                yield kind, case.record, case.after, case.choices, case.buffer
 
 
 def stored_waves():

@@ -54,6 +54,14 @@ class Commands(unittest.TestCase):
         answer = tool("ringscan", "--together", path("examples", "cut-off.txt")).out
         self.assertEqual(re.sub("^    ", "", shown, flags=re.M).encode(), answer)
 
+    def test_the_bookings_in_the_readme_and_the_examples(self):
+        answer = tool("ringload", path("examples", "bookings.txt")).out
+        self.assertEqual(answer, read("examples", "bookings.loads"))
+        lines = answer.decode().splitlines()
+        for document, said, first in (("README.md", "The first begins with\n", 0), ("examples/README.md", "after the four bookings are\n", 5)):
+            shown = re.search(r"((?:    .*\n)+)", text_of(document).split(said)[1]).group(1)
+            self.assertEqual(shown.splitlines(), ["    " + line for line in lines[first:first + 3]])
+
     def test_the_lines_of_a_scan_in_the_examples(self):
         shown = re.search(r"((?:    .*\n)+)", text_of("examples", "README.md").split("the last of the second are\n")[1]).group(1)
         file = path("examples", "generators-fail.txt")
@@ -89,12 +97,12 @@ class Commands(unittest.TestCase):
         self.assertIn(line.encode() + b"\n", read("examples", "bus-breaker-open.run"))
 
     def test_card_and_readme_agree(self):
-        """Both have the picture of the ring, and the refusals from 1 to 11; 7 is given to no input any more."""
+        """Both have the picture of the ring, and the refusals from 1 to 14; 7 is given to no input any more."""
         readme, card = text_of("README.md"), text_of("docs", "CARD.md")
         picture = re.search(r"((?:    .*\n)+)", card).group(1)
         self.assertIn(picture, readme)
         for text in (readme, card):
-            self.assertEqual(re.findall(r"^\| (\d+) \|", text, re.M), [str(k) for k in range(1, 12)])
+            self.assertEqual(re.findall(r"^\| (\d+) \|", text, re.M), [str(k) for k in range(1, 15)])
             self.assertRegex(text, r"(?m)^\| 7 \| given to no input any more: it once meant ")
 
     def test_links_lead_somewhere(self):

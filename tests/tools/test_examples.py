@@ -4,7 +4,7 @@ import os
 import re
 import unittest
 
-from support import ToolCase, faultlines, make_vectors, path, read, ringsim, sim, simulated_scans, tool
+from support import ToolCase, faultlines, make_vectors, path, read, ringsim, sim, simulated_loads, simulated_scans, tool
 
 
 def named(*pattern):
@@ -12,7 +12,8 @@ def named(*pattern):
 
 
 SCANS = named("*.scans")
-EXAMPLES = [name for name in named("*.txt") if name not in SCANS]
+LOADS = named("*.loads")
+EXAMPLES = [name for name in named("*.txt") if name not in SCANS + LOADS]
 CUTS = named("*.cuts")
 ERRORS = named("errors", "*.txt")
 
@@ -32,7 +33,8 @@ def simulated_cuts(lines):
     return make_vectors.cuts_text(faultlines.encode(lines)).encode()
 
 
-SIMULATED = {"ringctl": simulated_run, "ringcuts": simulated_cuts, "ringplant": simulated_plant, "ringscan": simulated_scans}
+SIMULATED = {"ringctl": simulated_run, "ringcuts": simulated_cuts, "ringplant": simulated_plant, "ringscan": simulated_scans,
+             "ringload": simulated_loads}
 
 
 def strokes(line):
@@ -44,7 +46,7 @@ class Examples(ToolCase):
 
     def test_each_has_its_files(self):
         examples = [(name, end) for name in EXAMPLES for end in ("txt", "faults", "run")] + [(name, "cuts") for name in CUTS]
-        examples += [(name, end) for name in SCANS for end in ("txt", "scans")]
+        examples += [(name, end) for name in SCANS for end in ("txt", "scans")] + [(name, end) for name in LOADS for end in ("txt", "loads")]
         errors = [(name, end) for name in ERRORS for end in ("txt", "feeds")]
         for folder, wanted in (("examples", examples), ("examples/errors", errors)):
             files = [name for name in os.listdir(path(folder)) if not name.endswith(".md") and name != "errors"]
@@ -53,7 +55,7 @@ class Examples(ToolCase):
 
     def test_each_is_in_the_list(self):
         text = read("examples", "README.md").decode()
-        for name in EXAMPLES + SCANS:
+        for name in EXAMPLES + SCANS + LOADS:
             self.assertIn("| %s |" % name, text)
         for name in ERRORS:
             self.assertIn("examples/errors/%s.txt" % name, text)
@@ -83,6 +85,14 @@ class Examples(ToolCase):
                 expected = read("examples", name + ".scans")
                 self.assertEqual(simulated_scans(read("examples", name + ".txt")), expected)
                 self.check(tool("ringscan", path("examples", name + ".txt")), 0, expected)
+
+    def test_loads(self):
+        self.assertTrue(LOADS)
+        for name in LOADS:
+            with self.subTest(name):
+                expected = read("examples", name + ".loads")
+                self.assertEqual(simulated_loads(read("examples", name + ".txt")), expected)
+                self.check(tool("ringload", path("examples", name + ".txt")), 0, expected)
 
     def test_one_scan_instead_of_single_reports(self):
         """Of every example: the last choices are the same, with at most as many strokes; in some there are fewer."""
@@ -127,6 +137,9 @@ class Examples(ToolCase):
         self.assertNotIn(b"=-", read("examples", "one-cycle.scans"))
         single = re.sub(b"^(scan|end)\n", b"", read("examples", "one-cycle.txt"), flags=re.M)
         self.assertIn(b"B1=- B2=-", simulated_run(single))
+        loads = read("examples", "bookings.loads").splitlines()
+        self.assertRegex(loads[6], b"^scan of 3 reports .*dark 5200$")
+        self.assertEqual([line.rpartition(b"dark ")[2] for line in loads[7:9]], [b"700", b"0"])
         clashes = [name for name in ERRORS if b"clash G1 G2" in read("examples", "errors", name + ".feeds")]
         self.assertEqual(clashes, ["breaker-behind", "closing-first", "stuck-closed-taken-for-open"])
 
@@ -146,7 +159,7 @@ class Exercises(ToolCase):
                 lines, expected = lines.encode(), answers[number].encode()
                 self.assertEqual(SIMULATED[tools[number]](lines), expected)
                 refused = re.search(b"^refused", expected, re.M)
-                said = "^ringscan: line .* refused" if refused and tools[number] == "ringscan" else None
+                said = "^%s: line .* refused" % tools[number] if refused and tools[number] in ("ringscan", "ringload") else None
                 self.check(tool(tools[number], data=lines), int(bool(refused)), expected, said)
 
 

@@ -51,7 +51,7 @@ class Programs(unittest.TestCase):
         with tempfile.TemporaryDirectory() as folder:
             made = run([sys.executable, "-B", path("tests", "make_vectors.py"), "--seed", "14", "--out", folder])
             self.assertEqual(made.status, 0, made.said)
-            for name in ("vectors", "vectors_plant", "vectors_step", "vectors_cuts", "vectors_scan"):
+            for name in ("vectors", "vectors_plant", "vectors_step", "vectors_cuts", "vectors_scan", "vectors_book"):
                 if os.access(path("target", "bin", name), os.X_OK):
                     with self.subTest(name):
                         answer = program(name, cwd=os.path.join(folder, name))
@@ -74,9 +74,12 @@ class Programs(unittest.TestCase):
                 self.assertEqual(self.tally(name, changed), b"%d cases, %d differ\n" % (len(changed), len(changed)))
 
     def test_a_case_that_breaks_off_differs(self):
+        """In its buffer; a case without its first bytes is none."""
         for name, (size, _, _) in LAYOUTS.items():
-            case = next(case for case in stored_cases(name) if len(case) > size)
-            self.assertEqual(self.tally(name, [case, case[:-1]]), b"2 cases, 1 differ\n", name)
+            case = next((case for case in stored_cases(name) if len(case) > size), None)
+            if case:
+                self.assertEqual(self.tally(name, [case, case[:-1]]), b"2 cases, 1 differ\n", name)
+            self.assertEqual(self.tally(name, [(case or next(stored_cases(name)))[:size - 1]]), b"0 cases, 0 differ\n", name)
 
     def test_seed_and_folder_go_together(self):
         answer = run([sys.executable, "-B", path("tests", "make_vectors.py"), "--seed", "14"])

@@ -5,8 +5,8 @@ import json
 import re
 import unittest
 
-from support import (LAYOUTS, RULES, ScanCase, ToolCase, faultlines, make_vectors, path, program, read, record_of, report_of, ringsim, sim,
-                     stored_cases, stored_runs, tool)
+from support import (LAYOUTS, RULES, ScanCase, StepCase, ToolCase, faultlines, make_vectors, path, program, read, ringsim, sim, stored_cases,
+                     stored_runs, tool)
 
 # The papers' words: the start of a ring of three, "G1 off: G2h G2o G2h", and the ways that these take.
 HEAD = b"ring 3 reports %d\n"
@@ -20,8 +20,8 @@ RINGS = (3, 4, 5, 20)
 class Rules(unittest.TestCase):
 
     def test_the_rules_that_are_built(self):
-        """Notes 3 and 4 and no later one; every question to the simulation is bound to them."""
-        self.assertEqual(RULES, ringsim.rules_named("notes=3,4"))
+        """Notes 3, 4 and 5 and no later one; every question to the simulation is bound to them."""
+        self.assertEqual(RULES, ringsim.rules_named("notes=3,4,5"))
         self.assertEqual({part.keywords["rules"] for part in vars(sim).values()}, {RULES})
 
     def test_the_simulation_is_asked_under_the_rules_alone(self):
@@ -54,10 +54,11 @@ class Seven(unittest.TestCase):
         self.assertEqual(answers_of("vectors_step"), {0, 2, 5, 6, 8, 9})
         self.assertEqual(answers_of("vectors_scan"), {0, 5, 6, 8, 9, 11})
         self.assertEqual(answers_of("vectors_cuts"), {0, 8, 9, 10})
+        self.assertEqual(answers_of("vectors_book"), {0, 9, 10, 12, 13, 14})
         self.assertEqual(answers_of("vectors_plant"), {0, 2, 9})
 
     def test_no_output_of_the_gate_is_7(self):
-        for name in ("ringctl", "ringcuts", "ringplant", "ringscan", "ringtrace"):
+        for name in ("ringctl", "ringcuts", "ringload", "ringplant", "ringscan", "ringtrace"):
             self.assertNotIn(b"refused 7", read("crates", name, "stdout"))
 
     def test_no_report_gets_7(self):
@@ -197,19 +198,20 @@ class StoredSteps(unittest.TestCase):
 
     def test_word_0_for_generators(self):
         """Served for off and fit ones; 5 for numbers 0 and n + 1; 8 a byte below the sheet that is served; 9 before both."""
-        cases = [case for case in stored_cases("vectors_step") if case[1] == 0 and case[122:125:2] == b"\0\0"]
         numbers, served, short = set(), {}, []
-        for case in cases:
-            record, report, number = record_of(case[:1] + case[2:122]), report_of(case[122:125]), case[126]
-            numbers.add((number, "damaged" if sim.record_is_bad(record) else report.part.number - record.n if number == 5
-                         else record.health[report.part.code]))
+        for case in map(StepCase, stored_cases("vectors_step")):
+            if case.is_start or case.report.part.kind != "G" or case.report.word != 0:
+                continue
+            part, number = case.report.part, case.number
+            numbers.add((number, "damaged" if sim.record_is_bad(case.record) else part.number - case.record.n if number == 5
+                         else case.record.health[part.code]))
             if number == 0:
-                served[case[:125]] = 2 + 2 * sum(case[288:290])
+                served[case.call] = 2 + 2 * sum(case.buffer[:2])
             elif number == 8:
                 short.append(case)
         self.assertLessEqual({(0, 0), (0, 1), (5, 1), (5, -3), (8, 0), (8, 1), (9, "damaged")}, numbers)
         self.assertEqual({number for number, _ in numbers}, {0, 5, 8, 9})
-        self.assertGreater(sum(served.get(case[:125]) == case[125] + 1 for case in short), 100)
+        self.assertGreater(sum(served.get(case.call) == case.room + 1 for case in short), 100)
 
 
 class StoredScans(unittest.TestCase):

@@ -348,8 +348,8 @@ class Ringscan(ToolCase):
                       ["faultfile", "check"]):
             for file in ("-", path("examples", "one-cycle.txt")):
                 answer = tool(*words, file, data=LINES)
-                self.check(answer, 2, b"", "^%s: line [0-9]+: scan: scans are read by bin/ringscan\n" % words[0])
-                self.assertIn(": end: scans are read by bin/ringscan\n", answer.said)
+                self.check(answer, 2, b"", "^%s: line [0-9]+: scan: scans are read by bin/ringscan and bin/ringload\n" % words[0])
+                self.assertIn(": end: scans are read by bin/ringscan and bin/ringload\n", answer.said)
 
     def test_what_cannot_be_read(self):
         self.check(tool("ringscan", path("examples")), 2, b"", "^ringscan: .*examples cannot be read: Is a directory\n$")

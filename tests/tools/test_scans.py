@@ -20,7 +20,7 @@ def steps_of(case):
 
 
 def choice_bytes(choices):
-    return make_vectors.answer_bytes(ringsim.Answer(0, ringsim.Record(3), choices), b"")[122:]
+    return make_vectors.answer_bytes(ringsim.Answer(0, ringsim.Record(3), choices), b"")[655:]
 
 
 class Counts(unittest.TestCase):

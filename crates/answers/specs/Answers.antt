@@ -1,6 +1,5 @@
 -- Reports and answers in the bytes of a stored case (tests/make_vectors.py).
-use mathlib.Core.Path.{_≡_, refl, sym, _∙_, ap}
-use mathlib.Core.Bool.{Bool, true, false, not, Bool·beq}
+use mathlib.Core.Path.{_≡_, sym, _∙_, ap}
 use mathlib.Core.List.{List}
 use mathlib.Core.Logic.{_≢_, _⊎_, inl, inr}
 use Prim.Native.Nat.{ℕ, _+_, _*_, _<_, _≤_}
@@ -17,15 +16,16 @@ use Rattle.model.specs.declared.Report.{Report}
 use Rattle.model.specs.declared.Scan.{Scan}
 use Rattle.model.specs.declared.Choice.the-variants.{Dark}
 use Rattle.model.specs.declared.BusChoice.{BusChoice}
-use Rattle.model.specs.declared.Commands.{Commands}
-use Rattle.model.specs.declared.RingAnswer.{RingAnswer}
+use Rattle.model.specs.declared.RingState.{RingState}
+use Rattle.model.specs.declared.Outcome.{Outcome}
+use Rattle.model.specs.declared.StateAnswer.{StateAnswer}
 use Rattle.model.specs.Values.{number, firstCode, wordNumber, choiceSource, choiceLetter, outcomeNumber}
 use Rattle.model.specs.Plant.{largest}
 use Rattle.model.specs.Reports.{wordNamed}
 use Rattle.model.specs.Answers.{wordAnswer}
-use Rattle.model.specs.Laws.Tests.{contra, dec-eq}
+use Rattle.model.specs.Laws.Tests.{dec-eq}
 use Rattle.words.specs.Words.{number-names}
-use Rattle.cases.specs.Cases.{ringAt}
+use Rattle.loads.specs.Loads.{stateAt}
 
 -- part p is of kind i (0 generators, 1 generator breakers, 2 bus breakers) and has the number k
 pub record PartIn (i k : ℕ) (p : Part) : Type 0 where
@@ -54,11 +54,15 @@ ChoicesIn n case from cs =
     (b : ℕ)
     → b < n → ChoiceIn (getD case (from + 2 * b) 0) (getD case (from + 2 * b + 1) 0) (getD cs b (record { choice = Dark }))
 
+-- an outcome's number and the record stand from an index on
+pub record RecordIn (case : List ℕ) (from : ℕ) (outcome : Outcome) (state : RingState) : Type 0 where
+  pub numbered : outcomeNumber outcome ≡ getD case from 0
+  pub recorded : state ≡ stateAt case (getD case (from + 1) 0) (from + 2)
+
 -- an answer stands from an index on: the number of its outcome, the record and the choices of all twenty buses
-pub record AnswerIn (case : List ℕ) (from : ℕ) (answer : RingAnswer) : Type 0 where
-  pub outcome : outcomeNumber (answer .outcome) ≡ getD case from 0
-  pub ring : answer .ring ≡ ringAt case (getD case (from + 1) 0) (from + 2)
-  pub choices : ChoicesIn largest case (from + 122) (answer .choices)
+pub record AnswerIn (case : List ℕ) (from : ℕ) (answer : StateAnswer) : Type 0 where
+  pub record-in : RecordIn case from (answer .outcome) (answer .state)
+  pub choices : ChoicesIn largest case (from + 655) (answer .choices)
 
 -- ---- what a part's and a word's bytes say
 
@@ -100,64 +104,6 @@ pub choices-more : (n : ℕ) (case : List ℕ) (from : ℕ) (cs : List BusChoice
     → ChoicesIn (n + 1) case from cs
 choices-more n case from cs =
     below-more (λ b. ChoiceIn (getD case (from + 2 * b) 0) (getD case (from + 2 * b + 1) 0) (getD cs b (record { choice = Dark }))) n
-
--- two arrays hold the same below place i
-abbrev pub AlikeTo : ℕ → List Bool → List Bool → Type 0
-AlikeTo i a b = (k : ℕ) → k < i → getD a k false ≡ getD b k false
-
--- .. and all three of two sets of commands do
-pub record SameTo (i : ℕ) (a b : Commands) : Type 0 where
-  pub generators : AlikeTo i (a .generators) (b .generators)
-  pub generator-breakers : AlikeTo i (a .«generator_breakers») (b .«generator_breakers»)
-  pub bus-breakers : AlikeTo i (a .«bus_breakers») (b .«bus_breakers»)
-
--- two commands that do not differ are the same
-pub agree : (x y : Bool) → not (Bool·beq x y) ≡ false → x ≡ y
-agree true true e = refl
-agree true false e = contra refl e
-agree false true e = contra refl e
-agree false false e = refl
-
--- the arrays of the commands have 20 places
-pub record SizedCommands (a : Commands) : Type 0 where
-  pub generators : length (a .generators) ≡ largest
-  pub generator-breakers : length (a .«generator_breakers») ≡ largest
-  pub bus-breakers : length (a .«bus_breakers») ≡ largest
-
-module _ (x y : List Bool) where
-  alike-none : AlikeTo 0 x y
-  alike-none k h = absurd (omega arith)
-
-  alike-more : (i : ℕ) → AlikeTo i x y → getD x i false ≡ getD y i false → AlikeTo (i + 1) x y
-  alike-more i = below-more (λ k. getD x k false ≡ getD y k false) i
-
-  alike-all : length x ≡ largest → length y ≡ largest → AlikeTo largest x y → x ≡ y
-  alike-all m n h = ext-getD false x y (m ∙ sym n) (λ k l. h k (omega arith))
-
-module _ (a b : Commands) where
-  pub same-none : SameTo 0 a b
-  same-none = record {
-    generators = alike-none (a .generators) (b .generators);
-    generator-breakers = alike-none (a .«generator_breakers») (b .«generator_breakers»);
-    bus-breakers = alike-none (a .«bus_breakers») (b .«bus_breakers»);
-  }
-
-  pub same-more : (i : ℕ) → SameTo i a b → getD (a .generators) i false ≡ getD (b .generators) i false
-      → getD (a .«generator_breakers») i false ≡ getD (b .«generator_breakers») i false
-      → getD (a .«bus_breakers») i false ≡ getD (b .«bus_breakers») i false → SameTo (i + 1) a b
-  same-more i s e f g = record {
-    generators = alike-more (a .generators) (b .generators) i (s .generators) e;
-    generator-breakers = alike-more (a .«generator_breakers») (b .«generator_breakers») i (s .generator-breakers) f;
-    bus-breakers = alike-more (a .«bus_breakers») (b .«bus_breakers») i (s .bus-breakers) g;
-  }
-
-  pub same-all : SizedCommands a → SizedCommands b → SameTo largest a b → a ≡ b
-  same-all p q s =
-      let e = alike-all (a .generators) (b .generators) (p .generators) (q .generators) (s .generators) in
-      let f = alike-all (a .«generator_breakers») (b .«generator_breakers») (p .generator-breakers) (q .generator-breakers)
-      (s .generator-breakers) in
-      let g = alike-all (a .«bus_breakers») (b .«bus_breakers») (p .bus-breakers) (q .bus-breakers) (s .bus-breakers) in
-      λ i. record { generators = e i; «generator_breakers» = f i; «bus_breakers» = g i }
 
 -- ---- the places of a scan
 

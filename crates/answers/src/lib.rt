@@ -9,16 +9,16 @@ ghost use Rattle.model.specs.declared.Word.{Word};
 ghost use Rattle.model.specs.declared.Report.{Report};
 ghost use Rattle.model.specs.declared.Scan.{Scan};
 ghost use Rattle.model.specs.Values.{wordNumber};
-ghost use Rattle.answers.specs.Answers.{PartIn, ReportIn, ScanIn, ChoiceIn, ChoicesIn, AnswerIn};
+ghost use Rattle.answers.specs.Answers.{PartIn, ReportIn, ScanIn, ChoiceIn, ChoicesIn, RecordIn, AnswerIn};
+use model::BookingAnswer;
 use model::BusChoice;
 use model::Choice;
-use model::Commands;
-use model::Health;
+use model::Outcome;
 use model::Part;
 use model::Report;
-use model::Ring;
-use model::RingAnswer;
+use model::RingState;
 use model::Scan;
+use model::StateAnswer;
 use model::Word;
 use model::WordAnswer;
 
@@ -105,69 +105,37 @@ fn same_choices(choices: [BusChoice; 20], case: &[u8], from: usize) -> bool
     true
 }
 
-// Whether two ring states have the same health.
-fn same_health(ours: Health, theirs: Health) -> bool
-    ensures { λ r. ⌜ (r ≡ true → ours ≡ theirs) ⌝ }
+// Whether an outcome's number and a ring state are those that a case holds from an index on.
+fn same_record(outcome: Outcome, state: RingState, case: &[u8], from: usize) -> bool
+    requires { ⌜ from + 655 ≤ length (now case) ⌝ }
+    ensures { λ r. ⌜ (r ≡ true → RecordIn (now (case .entry)) from outcome state) ⌝ }
 {
-    let our_generators = ours.generators;
-    let our_generator_breakers = ours.generator_breakers;
-    let our_bus_breakers = ours.bus_breakers;
-    let their_generators = theirs.generators;
-    let their_generator_breakers = theirs.generator_breakers;
-    let their_bus_breakers = theirs.bus_breakers;
-    if !check::same(&our_generators, &their_generators) {
-        return false;
-    }
-    if !check::same(&our_generator_breakers, &their_generator_breakers) {
-        return false;
-    }
-    check::same(&our_bus_breakers, &their_bus_breakers)
-}
-
-// Whether two ring states have the same commands.
-fn same_commands(ours: Commands, theirs: Commands) -> bool
-    ensures { λ r. ⌜ (r ≡ true → ours ≡ theirs) ⌝ }
-{
-    for i in 0..20 {
-        if ours.generators[i] != theirs.generators[i] {
-            return false;
-        }
-        if ours.generator_breakers[i] != theirs.generator_breakers[i] {
-            return false;
-        }
-        if ours.bus_breakers[i] != theirs.bus_breakers[i] {
-            return false;
-        }
-    }
-    true
-}
-
-// Whether two ring states (document 01: ring records) are the same.
-fn same_ring(ours: Ring, theirs: Ring) -> bool
-    ensures { λ r. ⌜ (r ≡ true → ours ≡ theirs) ⌝ }
-{
-    if ours.n != theirs.n {
-        return false;
-    }
-    if !same_health(ours.health, theirs.health) {
-        return false;
-    }
-    same_commands(ours.commands, theirs.commands)
-}
-
-// Whether an answer is the one that a case holds from an index on: the number of the outcome, the ring state and the choices.
-pub fn same(answer: RingAnswer, case: &[u8], from: usize) -> bool
-    requires { ⌜ from + 162 ≤ length (now case) ⌝ }
-    ensures { λ r. ⌜ (r ≡ true → AnswerIn (now (case .entry)) from answer) ⌝ }
-{
-    let outcome = answer.outcome;
-    let ring = answer.ring;
-    let choices = answer.choices;
     if cases::outcome_number(outcome) != case[from] {
         return false;
     }
-    if !same_ring(ring, cases::ring_at(case, case[from + 1], from + 2)) {
+    comparing::same_state(state, loads::state_at(case, case[from + 1], from + 2))
+}
+
+// Whether an answer is the one that a case holds from an index on: the number of the outcome, the ring state and the choices.
+pub fn same(answer: StateAnswer, case: &[u8], from: usize) -> bool
+    requires { ⌜ from + 695 ≤ length (now case) ⌝ }
+    ensures { λ r. ⌜ (r ≡ true → AnswerIn (now (case .entry)) from answer) ⌝ }
+{
+    let outcome = answer.outcome;
+    let state = answer.state;
+    let choices = answer.choices;
+    if !same_record(outcome, state, case, from) {
         return false;
     }
-    same_choices(choices, case, from + 122)
+    same_choices(choices, case, from + 655)
+}
+
+// Whether the answer of a booking or of a cancellation is the one that a case holds from an index on.
+pub fn same_booking(answer: BookingAnswer, case: &[u8], from: usize) -> bool
+    requires { ⌜ from + 655 ≤ length (now case) ⌝ }
+    ensures { λ r. ⌜ (r ≡ true → RecordIn (now (case .entry)) from (answer .outcome) (answer .state)) ⌝ }
+{
+    let outcome = answer.outcome;
+    let state = answer.state;
+    same_record(outcome, state, case, from)
 }

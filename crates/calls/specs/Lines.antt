@@ -9,7 +9,7 @@ use Rattle.model.specs.declared.Ring.{Ring}
 use Rattle.model.specs.declared.Scan.{Scan}
 use Rattle.model.specs.Reports.{withPlan}
 use Rattle.model.specs.Sheet.{written}
-use Rattle.model.specs.Refusals.{badRecord}
+use Rattle.model.specs.Refusals.{badRing}
 use Rattle.model.specs.Text.{transitionLine}
 use Rattle.model.specs.ScanText.{scanText, scanState}
 
@@ -31,15 +31,15 @@ stored-fits {text} {before} s same =
       length-drop (length text) before,
     )
 
--- line i of a ring that was told its reports stands there, and next is the ring state behind it
+-- line i of a ring that was told its reports stands there, and next is the ring behind it
 pub record Shown (i : ℕ) (ring : Ring) (before after : List ℕ) (next : Ring) (size : ℕ) : Type 0 where
   pub state : next ≡ withPlan ring
   pub stored : Stored (transitionLine i ring) before after size
 
--- the text of a scan stands there, line i or its refusal, and next is the ring state behind it, which is a good one
+-- the text of a scan stands there, line i or its refusal, and next is the ring behind it, which is a good one
 pub record Answered (i : ℕ) (ring : Ring) (s : Scan) (before after : List ℕ) (next : Ring) (size : ℕ) : Type 0 where
   pub state : next ≡ scanState ring s
-  pub good : badRecord next ≡ false
+  pub good : badRing next ≡ false
   pub stored : Stored (scanText i ring s) before after size
 
 -- a line by its number and its ring

@@ -19,7 +19,7 @@ use Rattle.model.specs.Plant.{PartHealth, smallest, largest}
 use Rattle.model.specs.Choosing.{plan, commands, choices}
 use Rattle.model.specs.Sheet.{opening, closing, sheet, written}
 use Rattle.model.specs.Reports.{healthOf, commandsOf, blankRing, told, withPlan}
-use Rattle.model.specs.Refusals.{firstMet, tooShort, badRecord, nextSheet, reportConditions, startRefusal, stepRefusal}
+use Rattle.model.specs.Refusals.{firstMet, tooShort, badRing, nextSheet, reportConditions, startRefusal, stepRefusal}
 use Rattle.model.specs.Answers.{Reply, refusedAnswer, refusedReply, servedAnswer, servedReply, startReply, stepReply}
 use Rattle.model.specs.Text.{transitionLine, refusedText}
 use Rattle.model.specs.Scans.{scanReports, toldAll, scanRefusal, scanReply}
@@ -31,9 +31,7 @@ use Rattle.model.specs.Laws.Choosing.{Inside}
 use Rattle.theory.specs.Proofs.Choosing.{choices-inside}
 use Rattle.theory.specs.Theorems.Closing.{closing-at, sheet-fits}
 use Rattle.demands.specs.Proofs.Operations.{opening-at}
-use Rattle.demands.specs.Statements.Records.{started}
-use Rattle.demands.specs.Statements.Demand3.{step, scan}
-use Rattle.demands.specs.Theorems.Records.{call-good, made-good}
+use Rattle.demands.specs.Theorems.Records.{inner-start-good, inner-step-good, inner-scan-good}
 use Rattle.buses.specs.Buses.{AllNamed, Named}
 use Rattle.lines.specs.SheetLine.{SheetBytes, sheetLine, sheet-is, sheet-line}
 use Rattle.calls.specs.Lines.{Shown, Answered}
@@ -110,12 +108,16 @@ unfolding tooShort nextSheet
 room-enough ring small buffer enough =
     le-ltb (length buffer) _ (omega (arith, sheet-fits (ring .n) (healthOf (ring .health)) (commandsOf (ring .commands)) small))
 
+start-free : (n : ℕ) → smallest ≤ n → n ≤ largest → (buffer : List ℕ) → 122 ≤ length buffer → startRefusal n (length buffer) ≡ 0
+unfolding startRefusal firstMet blankRing
+start-free n big small buffer enough = rw (inside n big small, room-enough (blankRing n) small buffer enough)
+
 start-serves : (n : ℕ) → smallest ≤ n → n ≤ largest → (buffer : List ℕ) → 122 ≤ length buffer
     → startReply n buffer ≡ servedReply (blankRing n) buffer
-unfolding startReply startRefusal firstMet blankRing
-start-serves n big small buffer enough = rw (inside n big small, room-enough (blankRing n) small buffer enough)
+unfolding startReply
+start-serves n big small buffer enough = rw (start-free n big small buffer enough)
 
-step-serves : (ring : Ring) → badRecord ring ≡ false → (r : Report) → firstMet (reportConditions (ring .n) r) ≡ 0
+step-serves : (ring : Ring) → badRing ring ≡ false → (r : Report) → firstMet (reportConditions (ring .n) r) ≡ 0
     → (buffer : List ℕ) → 122 ≤ length buffer → stepReply ring r buffer ≡ servedReply (told ring r) buffer
 unfolding stepReply stepRefusal firstMet reportConditions told
 step-serves ring good r checked buffer enough =
@@ -129,13 +131,13 @@ module _ (n : ℕ) (big : smallest ≤ n) (small : n ≤ largest) (buffer : List
   unfolding blankRing
   start-given = served-given (blankRing n) small buffer (start-serves n big small buffer enough)
 
-module _ (ring : Ring) (good : badRecord ring ≡ false) (r : Report) (checked : firstMet (reportConditions (ring .n) r) ≡ 0) where
+module _ (ring : Ring) (good : badRing ring ≡ false) (r : Report) (checked : firstMet (reportConditions (ring .n) r) ≡ 0) where
   pub step-given : (buffer : List ℕ) → 122 ≤ length buffer → (a : RingAnswer) (after : List ℕ)
       → a ≡ stepReply ring r buffer .answer → after ≡ stepReply ring r buffer .buffer → Given (told ring r) a after
   unfolding told
   step-given buffer enough = served-given (told ring r) (good-size ring good .1) buffer (step-serves ring good r checked buffer enough)
 
--- ---- the ring states are good
+-- ---- the rings are good
 
 -- a buffer of 122 bytes
 sheetBuffer : List ℕ
@@ -145,21 +147,20 @@ sheet-buffer : 122 ≤ length sheetBuffer
 unfolding sheetBuffer
 sheet-buffer = omega (arith, length-replicate {A = ℕ} 122 0)
 
-pub start-good : (n : ℕ) → smallest ≤ n → n ≤ largest → badRecord (withPlan (blankRing n)) ≡ false
+pub start-good : (n : ℕ) → smallest ≤ n → n ≤ largest → badRing (withPlan (blankRing n)) ≡ false
 unfolding servedReply servedAnswer
 start-good n big small =
-    let e = start-serves n big small sheetBuffer sheet-buffer in
-    rw e at (made-good (started n sheetBuffer big small (rw e)))
+    rw (start-serves n big small sheetBuffer sheet-buffer) at (inner-start-good n sheetBuffer big small (start-free n big small sheetBuffer sheet-buffer))
 
-pub next-good : (ring : Ring) → badRecord ring ≡ false → (r : Report) → firstMet (reportConditions (ring .n) r) ≡ 0
-    → badRecord (withPlan (told ring r)) ≡ false
+pub next-good : (ring : Ring) → badRing ring ≡ false → (r : Report) → firstMet (reportConditions (ring .n) r) ≡ 0
+    → badRing (withPlan (told ring r)) ≡ false
 unfolding servedReply servedAnswer
 next-good ring good r checked =
-    rw (step-serves ring good r checked sheetBuffer sheet-buffer) at (call-good ring good (step r sheetBuffer))
+    rw (step-serves ring good r checked sheetBuffer sheet-buffer) at (inner-step-good ring good r sheetBuffer)
 
--- ---- the text of a scan of a good ring state, with a buffer of 122 bytes
+-- ---- the text of a scan of a good ring, with a buffer of 122 bytes
 
-module _ (ring : Ring) (good : badRecord ring ≡ false) (s : Scan) (buffer : List ℕ) (full : length buffer ≡ sheetRoom) (a : RingAnswer)
+module _ (ring : Ring) (good : badRing ring ≡ false) (s : Scan) (buffer : List ℕ) (full : length buffer ≡ sheetRoom) (a : RingAnswer)
     (after : List ℕ) (answered : a ≡ scanReply ring s buffer .answer) (left : after ≡ scanReply ring s buffer .buffer)
     (number : outcomeNumber (a .outcome) ≡ scanRefusal ring s (length buffer)) where
   -- the ring told its reports
@@ -169,8 +170,8 @@ module _ (ring : Ring) (good : badRecord ring ≡ false) (s : Scan) (buffer : Li
   number-is : (k : ℕ) → outcomeNumber (a .outcome) ≡ k → scanRefusal ring s sheetRoom ≡ k
   number-is k e = ap (scanRefusal ring s) (sym full) ∙ sym number ∙ e
 
-  next-good-scan : badRecord (a .ring) ≡ false
-  next-good-scan = rw answered (call-good ring good (scan s buffer))
+  next-good-scan : badRing (a .ring) ≡ false
+  next-good-scan = rw answered (inner-scan-good ring good s buffer)
 
   module _ (served : a .outcome ≡ Served) where
     reply-served : scanReply ring s buffer ≡ servedReply all-told buffer

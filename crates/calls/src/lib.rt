@@ -1,10 +1,10 @@
-// The line of a served call, or a scan's refusal, with the ring state behind it. Lines are counted from 0, the start's.
+// The line of a served call, or a scan's refusal, with the ring behind it. Lines are counted from 0, the start's.
 ghost use mathlib.Core.Path.{_≡_};
 ghost use mathlib.Core.Bool.{false};
 ghost use Prim.Native.Nat.{_<_, _≤_};
 ghost use lib.ListN.{length};
 ghost use Rattle.model.specs.Reports.{blankRing, told};
-ghost use Rattle.model.specs.Refusals.{firstMet, reportConditions, badRecord};
+ghost use Rattle.model.specs.Refusals.{firstMet, reportConditions, badRing};
 ghost use Rattle.model.specs.Text.{lineRoom};
 ghost use Rattle.calls.specs.Lines.{Shown, Answered};
 use model::Outcome;
@@ -12,7 +12,7 @@ use model::Report;
 use model::Ring;
 use model::Scan;
 
-// A line in the front of a lent buffer: the ring state behind it, and its length.
+// A line in the front of a lent buffer: the ring behind it, and its length.
 pub struct Line {
     pub ring: Ring,
     pub length: usize,
@@ -34,7 +34,7 @@ pub fn start_line(n: u8, out: &mut [u8]) -> Line
 // Line i, of a report that is not refused.
 pub fn step_line(ring: Ring, report: Report, i: usize, out: &mut [u8]) -> Line
     requires { ⌜
-        (badRecord ring ≡ false) × (firstMet (reportConditions (ring .n) report) ≡ 0)
+        (badRing ring ≡ false) × (firstMet (reportConditions (ring .n) report) ≡ 0)
         × (i < 10000) × (lineRoom ≤ length (now out))
         ⌝ }
     ensures { λ r. ⌜ Shown i (told ring report) (now (out .entry)) (now (out .exit)) (r .ring) (r .length) ⌝ }
@@ -50,7 +50,7 @@ pub fn step_line(ring: Ring, report: Report, i: usize, out: &mut [u8]) -> Line
 
 // The text of a scan: line i, or its refusal.
 pub fn scan_text(ring: Ring, scan: Scan, i: usize, out: &mut [u8]) -> Line
-    requires { ⌜ (badRecord ring ≡ false) × (i < 10000) × (lineRoom ≤ length (now out)) ⌝ }
+    requires { ⌜ (badRing ring ≡ false) × (i < 10000) × (lineRoom ≤ length (now out)) ⌝ }
     ensures { λ r. ⌜ Answered i ring scan (now (out .entry)) (now (out .exit)) (r .ring) (r .length) ⌝ }
 {
     let mut sheet = [0u8; 122];

@@ -1,5 +1,5 @@
-// What the programs that run stored cases read in a case: arrays of bytes and of commands, a ring state (document 01: ring record), and
-// an outcome's number. Places are indices from 0.
+// What the programs that run stored cases read in a case: arrays of bytes and of commands, a ring, and an outcome's number. Places are
+// indices from 0.
 ghost use mathlib.Core.Path.{_≡_};
 ghost use Prim.Native.Nat.{_+_, _≤_};
 ghost use lib.ListN.{length};
@@ -58,7 +58,7 @@ pub fn commands_at(case: &[u8], from: usize) -> Commands
     }
 }
 
-// A ring state of n buses, its healths and its commands.
+// A ring of n buses, its healths and its commands.
 pub fn ring_at(case: &[u8], n: u8, from: usize) -> Ring
     requires { ⌜ from + 120 ≤ length (now case) ⌝ }
     ensures { λ r. ⌜ r ≡ ringAt (now (case .entry)) n from ⌝ }

@@ -1,2 +1,3 @@
--- The laws of refused calls.
+-- The laws of the replies, and of bookings and cancellations.
 pub mod Replies
+pub mod Booking

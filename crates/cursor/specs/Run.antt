@@ -1,4 +1,4 @@
--- The run of a file that is served: its lines, its reports and its ring states. Reports are counted from 0.
+-- The run of a file that is served: its lines, its reports and its rings. Reports are counted from 0.
 use mathlib.Core.Path.{_≡_, refl, sym, _∙_, ap}
 use mathlib.Core.Bool.{Bool, true, false, cond}
 use mathlib.Core.Logic.{_⊎_, inl, inr, _≢_}
@@ -18,7 +18,7 @@ use Rattle.model.specs.declared.RunCursor.{RunCursor}
 use Rattle.model.specs.declared.RunPiece.{RunPiece}
 use Rattle.model.specs.Lists.{below}
 use Rattle.model.specs.Reports.{fileSize, fileCount, fileCodes, fileWords, blankRing, told, withPlan}
-use Rattle.model.specs.Refusals.{firstMet, reportConditions, reportAnswer, reportRefusal, reportsRefusal, fileRefusal, badRecord}
+use Rattle.model.specs.Refusals.{firstMet, reportConditions, reportAnswer, reportRefusal, reportsRefusal, fileRefusal, badRing}
 use Rattle.model.specs.Answers.{reportAt, fileAnswer}
 use Rattle.model.specs.Text.{
   ascii,
@@ -78,7 +78,7 @@ module _ (f : List ℕ) (served : fileRefusal f ≡ 0) where
       rw (lt-ltb i (length (fileCodes f)) (omega arith), lt-ltb i (length (fileWords f)) (omega arith))
       (all-read (fileSize f) (fileCodes f) (fileWords f) (s .reports) i (omega arith) (omega arith))
 
-  -- ---- its ring states
+  -- ---- its rings
 
   -- the ring of the next line, told the next report
   pub ring-next : (i : ℕ) (r : Report) → reportAt (fileSize f) (fileCodes f) (fileWords f) i ≡ Read r
@@ -87,14 +87,14 @@ module _ (f : List ℕ) (served : fileRefusal f ≡ 0) where
   ring-next i r e = rw e
 
   -- the ring keeps its size, and its state behind each line is good
-  pub ring-good : (i : ℕ) → i ≤ fileCount f → (runRing f i .n ≡ fileSize f) × (badRecord (withPlan (runRing f i)) ≡ false)
+  pub ring-good : (i : ℕ) → i ≤ fileCount f → (runRing f i .n ≡ fileSize f) × (badRing (withPlan (runRing f i)) ≡ false)
   unfolding runRing blankRing told withPlan
   ring-good zero h = let s = file-served f served in (refl, start-good (fileSize f) (s .big) (s .small))
   ring-good (suc i) h = go (ring-good i (omega arith)) (is-read i (omega arith))
     where
-      go : (runRing f i .n ≡ fileSize f) × (badRecord (withPlan (runRing f i)) ≡ false)
+      go : (runRing f i .n ≡ fileSize f) × (badRing (withPlan (runRing f i)) ≡ false)
           → IsRead (fileSize f) (reportAt (fileSize f) (fileCodes f) (fileWords f) i)
-          → (runRing f (suc i) .n ≡ fileSize f) × (badRecord (withPlan (runRing f (suc i))) ≡ false)
+          → (runRing f (suc i) .n ≡ fileSize f) × (badRing (withPlan (runRing f (suc i))) ≡ false)
       go (size, good) (r, is, checked) =
           rw (ring-next i r is) (size, next-good (withPlan (runRing f i)) good r (rw size checked))
 
@@ -102,7 +102,7 @@ module _ (f : List ℕ) (served : fileRefusal f ≡ 0) where
   module _ {i m : ℕ} {ring : Ring} {a : ReportAnswer} (few : i < fileCount f) (count : m ≡ (length f - 3) / 2)
       (state : ring ≡ withPlan (runRing f i))
       (answer : a ≡ reportAt (ring .n) (take (3 + m - 3) (drop 3 f)) (take (length f - (3 + m)) (drop (3 + m) f)) i) where
-    report-is : (a ≡ reportAt (fileSize f) (fileCodes f) (fileWords f) i) × (ring .n ≡ fileSize f) × (badRecord ring ≡ false)
+    report-is : (a ≡ reportAt (fileSize f) (fileCodes f) (fileWords f) i) × (ring .n ≡ fileSize f) × (badRing ring ≡ false)
     unfolding withPlan
     report-is =
         let good = ring-good i (omega arith) in
@@ -113,7 +113,7 @@ module _ (f : List ℕ) (served : fileRefusal f ≡ 0) where
 
     -- it is read, and the next ring is told it
     pub report-next : (r : Report) → a ≡ Read r
-        → (badRecord ring ≡ false) × (firstMet (reportConditions (ring .n) r) ≡ 0) × (runRing f (i + 1) ≡ told ring r)
+        → (badRing ring ≡ false) × (firstMet (reportConditions (ring .n) r) ≡ 0) × (runRing f (i + 1) ≡ told ring r)
     report-next r e =
         let t = report-is in
         let (q, is, checked) = is-read i few in

@@ -1,4 +1,4 @@
-// The line of a run at a cursor, and the cursor behind it, with the ring state there. Places and reports are counted from 0.
+// The line of a run at a cursor, and the cursor behind it, with the ring there. Places and reports are counted from 0.
 ghost use mathlib.Core.Path.{_≡_};
 ghost use Prim.Native.Nat.{_+_, _<_, _≤_};
 ghost use lib.ListN.{length};

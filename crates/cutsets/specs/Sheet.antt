@@ -9,12 +9,14 @@ use lib.ListN.{length, take, set}
 use borrow.Author.Tests.{lt-ltb, le-ltb}
 use Rattle.model.specs.declared.Part.{Part}
 use Rattle.model.specs.declared.Ring.{Ring}
+use Rattle.model.specs.declared.RingState.{RingState}
 use Rattle.model.specs.declared.Outcome.the-variants.{Served}
 use Rattle.model.specs.declared.CutSetsAnswer.{CutSetsAnswer}
 use Rattle.model.specs.Values.{index, outcomeNumber}
 use Rattle.model.specs.Sheet.{written}
 use Rattle.model.specs.Reports.{healthOf}
-use Rattle.model.specs.Refusals.{firstMet, tooShort, badRecord, busOutside}
+use Rattle.model.specs.Refusals.{firstMet, tooShort, busOutside}
+use Rattle.model.specs.States.{badRecord}
 use Rattle.model.specs.CutSets.{
   cutSets,
   setBytes,
@@ -71,27 +73,30 @@ module _ (sets : List (List Part)) (l l′ : List ℕ) (c : ℕ) (a : Appended (
 -- ---- the answer
 
 -- a call's answer, the bytes that it leaves, and the number of its outcome
-abbrev pub Gives : Ring → ℕ → List ℕ → CutSetsAnswer → List ℕ → Type 0
-Gives ring bus buffer r after =
-    (r ≡ cutSetsReply ring bus buffer .answer)
-    × ((after ≡ cutSetsReply ring bus buffer .buffer) × (outcomeNumber (r .outcome) ≡ cutSetsRefusal ring bus (length buffer)))
+abbrev pub Gives : RingState → ℕ → List ℕ → CutSetsAnswer → List ℕ → Type 0
+Gives state bus buffer r after =
+    (r ≡ cutSetsReply state bus buffer .answer)
+    × ((after ≡ cutSetsReply state bus buffer .buffer) × (outcomeNumber (r .outcome) ≡ cutSetsRefusal state bus (length buffer)))
 
-module _ (ring : Ring) (bus : ℕ) (buffer : List ℕ) where
+module _ (state : RingState) (bus : ℕ) (buffer : List ℕ) where
+  abbrev ring : Ring
+  ring = state .ring
+
   -- 9 comes first
-  pub bad : badRecord ring ≡ true → Gives ring bus buffer (refusedCutSets 9 buffer .answer) buffer
+  pub bad : badRecord state ≡ true → Gives state bus buffer (refusedCutSets 9 buffer .answer) buffer
   unfolding cutSetsReply cutSetsRefusal firstMet refusedCutSets
   bad e = rw e (refl, (refl, refl))
 
   -- then 10
-  pub outside : badRecord ring ≡ false → busOutside (ring .n) bus ≡ true → Gives ring bus buffer (refusedCutSets 10 buffer .answer) buffer
+  pub outside : badRecord state ≡ false → busOutside (ring .n) bus ≡ true → Gives state bus buffer (refusedCutSets 10 buffer .answer) buffer
   unfolding cutSetsReply cutSetsRefusal firstMet refusedCutSets
   outside e f = rw (e, f) (refl, (refl, refl))
 
   -- then 8
-  pub answered : (b : ℕ) (r : CutSetsAnswer) (after : List ℕ) → badRecord ring ≡ false → busOutside (ring .n) bus ≡ false → b ≡ index bus
+  pub answered : (b : ℕ) (r : CutSetsAnswer) (after : List ℕ) → badRecord state ≡ false → busOutside (ring .n) bus ≡ false → b ≡ index bus
       → (r ≡ sheetReply (cutSets (ring .n) (healthOf (ring .health)) b) buffer .answer)
       × (after ≡ sheetReply (cutSets (ring .n) (healthOf (ring .health)) b) buffer .buffer)
-      → Gives ring bus buffer r after
+      → Gives state bus buffer r after
   unfolding cutSetsReply cutSetsRefusal firstMet refusedCutSets servedCutSets sheetReply ringCutSets
   answered b r after e f z w = rw (e, f) (go (tooShort (length buffer) (cutSheet sets)) (rw z at w))
     where

@@ -14,7 +14,7 @@ ghost use Rattle.cutsets.specs.Sheet.{headed, sheetReply};
 use model::CutSetsAnswer;
 use model::Health;
 use model::Outcome;
-use model::Ring;
+use model::RingState;
 use partsets::PartSet;
 
 // Room for all sets of at most three of sixty parts: there are 36,051.
@@ -118,14 +118,15 @@ fn listed(n: usize, health: Health, b: usize, buffer: &mut [u8]) -> CutSetsAnswe
 
 // "The planning desk wants, for a ring record and a bus, every smallest set of at most three further faults that leaves that bus dark."
 // It checks 9, 10, 8.
-pub fn list(ring: Ring, bus: u8, buffer: &mut [u8]) -> CutSetsAnswer
-    ensures answer { λ r. ⌜ r ≡ cutSetsReply ring bus (now (buffer .entry)) .answer ⌝ }
-    ensures bytes { λ r. ⌜ now (buffer .exit) ≡ cutSetsReply ring bus (now (buffer .entry)) .buffer ⌝ }
-    ensures number { λ r. ⌜ outcomeNumber (r .outcome) ≡ cutSetsRefusal ring bus (length (now (buffer .entry))) ⌝ }
+pub fn list(state: RingState, bus: u8, buffer: &mut [u8]) -> CutSetsAnswer
+    ensures answer { λ r. ⌜ r ≡ cutSetsReply state bus (now (buffer .entry)) .answer ⌝ }
+    ensures bytes { λ r. ⌜ now (buffer .exit) ≡ cutSetsReply state bus (now (buffer .entry)) .buffer ⌝ }
+    ensures number { λ r. ⌜ outcomeNumber (r .outcome) ≡ cutSetsRefusal state bus (length (now (buffer .entry))) ⌝ }
 {
-    if records::bad_record(ring) {
+    if records::bad_record(state) {
         return refused(9);
     }
+    let ring = state.ring;
     if components::bus_outside(ring.n, bus) {
         return refused(10);
     }

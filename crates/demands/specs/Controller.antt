@@ -1,8 +1,7 @@
--- The controller whose answers are the definitions that the contracts of start, step and scan cite.
-use Rattle.model.specs.Answers.{startReply, stepReply}
-use Rattle.model.specs.Scans.{scanReply}
+-- The controller whose answers are the definitions that the contracts of start, step, scan, book and cancel cite.
+use Rattle.model.specs.States.{stateStart, stateStep, stateScan, bookAnswer, cancelAnswer}
 use Rattle.demands.specs.Statements.Demand3.{Controller}
 
 -- the controller of the definitions
 abbrev pub controller : Controller
-controller = record { start = startReply; step = stepReply; scan = scanReply }
+controller = record { start = stateStart; step = stateStep; scan = stateScan; book = bookAnswer; cancel = cancelAnswer }

@@ -1,4 +1,4 @@
-// The ring state after a fault file's last report: told every report, and planned once. Reports are counted from 0.
+// The ring after a fault file's last report: told every report, and planned once. Reports are counted from 0.
 ghost use mathlib.Core.Path.{_≡_};
 ghost use Prim.Native.Nat.{_≤_};
 ghost use lib.ListN.{length};
@@ -49,7 +49,7 @@ fn planned(ring: Ring) -> Ring
     next
 }
 
-// The ring state after a file's last report; that of a refused start where the file is refused.
+// The ring after a file's last report; that of a refused start where the file is refused.
 pub fn ring_after(file: &[u8]) -> LatestAnswer
     ensures answer { λ r. ⌜ r .outcome ≡ outcomeOf (fileRefusal (now (file .entry))) ⌝ }
     ensures number { λ r. ⌜ outcomeNumber (r .outcome) ≡ fileRefusal (now (file .entry)) ⌝ }

@@ -9,24 +9,27 @@ use borrow.Author.Tests.{le-ltb}
 use Rattle.model.specs.declared.Ring.{Ring}
 use Rattle.model.specs.Lists.{below}
 use Rattle.model.specs.Reports.{fileSize, fileCount, healthOf, withPlan}
-use Rattle.model.specs.Refusals.{firstMet, tooShort, badRecord, busOutside, fileRefusal}
+use Rattle.model.specs.Refusals.{firstMet, tooShort, badRing, busOutside, fileRefusal}
 use Rattle.model.specs.Text.{joined}
+use Rattle.model.specs.States.{unloaded}
 use Rattle.model.specs.CutSets.{cutSheet, ringCutSets, cutSetsRefusal}
 use Rattle.model.specs.CutText.{cutText, sheetRoom, busCutText, latestRing, printedCutSets}
 use Rattle.model.specs.Laws.Lists.{below-lt, map-ext}
 use Rattle.model.specs.Laws.Refusals.{good-size}
+use Rattle.model.specs.Laws.Bookings.{unloaded-bad}
 use Rattle.model.specs.Laws.CutSets.{cut-sheet-length}
 use Rattle.cutsets.specs.Sizes.{cut-sets-few}
 use Rattle.cursor.specs.Run.{ring-good}
 
--- a good ring state and a bus of it: the list is not refused, and the text is the bus's
-pub bus-text : (ring : Ring) (b : ℕ) → badRecord ring ≡ false → b < ring .n
+-- a good ring and a bus of it: the list is not refused, and the text is the bus's
+pub bus-text : (ring : Ring) (b : ℕ) → badRing ring ≡ false → b < ring .n
     → busCutText ring (suc b) ≡ cutText (suc b) (ringCutSets ring (suc b))
-unfolding busCutText cutSetsRefusal firstMet busOutside tooShort ringCutSets
+unfolding busCutText cutSetsRefusal unloaded firstMet busOutside tooShort ringCutSets
 bus-text ring b good inside =
     let few = cut-sets-few (ring .n) (healthOf (ring .health)) b (good-size ring good .1) in
     let fits : length (cutSheet (ringCutSets ring (suc b))) ≤ sheetRoom = omega (arith, cut-sheet-length (ringCutSets ring (suc b)), few) in
     rw (
+      unloaded-bad ring,
       good,
       le-ltb (suc b) 1 (omega arith),
       le-ltb (ring .n) (suc b) inside,
@@ -34,8 +37,8 @@ bus-text ring b good inside =
     )
 
 module _ (f : List ℕ) (served : fileRefusal f ≡ 0) where
-  -- the ring state after the last report is good and has the file's size
-  pub latest-good : (latestRing f .n ≡ fileSize f) × (badRecord (latestRing f) ≡ false)
+  -- the ring after the last report is good and has the file's size
+  pub latest-good : (latestRing f .n ≡ fileSize f) × (badRing (latestRing f) ≡ false)
   unfolding latestRing withPlan
   latest-good = rw served (ring-good f served (fileCount f) (omega arith))
 

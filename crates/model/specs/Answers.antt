@@ -99,7 +99,7 @@ busValues n h c b =
 unfoldable pub bufferAfter : List ℕ → List ℕ → List ℕ
 bufferAfter bytes buffer = cond (eqb (sheetRefusal (length buffer) bytes) 0) (written bytes buffer) buffer
 
--- what a start, a step or a scan gives: its answer, and the lent buffer after the call
+-- what an inner start, step or scan gives: its answer, the ring alone, and the lent buffer after the call
 pub record Reply : Type 0 where
   pub answer : RingAnswer
   pub buffer : List ℕ
@@ -124,7 +124,7 @@ servedAnswer ring = record { outcome = outcome.Served; ring = withPlan ring; cho
 unfoldable pub servedReply : Ring → List ℕ → Reply
 servedReply ring buffer = record { answer = servedAnswer ring; buffer = written (nextSheet ring) buffer }
 
--- a call of refusal k, for a ring that was told its reports: served where k is 0; refused, it gives back the ring state kept
+-- a call of refusal k, for a ring that was told its reports: served where k is 0; refused, it gives back the ring kept
 abbrev pub replyBy : ℕ → Ring → Ring → List ℕ → Reply
 replyBy k ring kept buffer = cond (eqb k 0) (servedReply ring buffer) (refusedReply k kept buffer)
 

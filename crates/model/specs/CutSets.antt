@@ -11,6 +11,7 @@ use Rattle.model.specs.declared.Word.{Word}
 use Rattle.model.specs.declared.Word.the-variants.{StuckOff, StuckOpen}
 use Rattle.model.specs.declared.Report.{Report}
 use Rattle.model.specs.declared.Ring.{Ring}
+use Rattle.model.specs.declared.RingState.{RingState}
 use Rattle.model.specs.declared.Outcome.the-variants.{Served, Refused}
 use Rattle.model.specs.declared.CutSetsAnswer.{CutSetsAnswer}
 use Rattle.model.specs.Lists.{below, keep, anyOf, isNone}
@@ -19,7 +20,8 @@ use Rattle.model.specs.Plant.{PartHealth, parts, fitGenerator, stuckOpen
 use Rattle.model.specs.Choosing.{plan}
 use Rattle.model.specs.Sheet.{written}
 use Rattle.model.specs.Reports.{reported, healthOf}
-use Rattle.model.specs.Refusals.{firstMet, tooShort, badRecord, busOutside}
+use Rattle.model.specs.Refusals.{firstMet, tooShort, busOutside}
+use Rattle.model.specs.States.{badRecord}
 
 -- "at most three further faults"
 abbrev pub mostFaults : ℕ
@@ -94,9 +96,10 @@ unfoldable pub ringCutSets : Ring → ℕ → List (List Part)
 ringCutSets ring bus = cutSets (ring .n) (healthOf (ring .health)) (index bus)
 
 -- "Turned away: 10 for a bus number outside 1 to n, after 9 and before 8."
-unfoldable pub cutSetsRefusal : Ring → ℕ → ℕ → ℕ
-cutSetsRefusal ring bus room =
-    firstMet ((9, badRecord ring) ∷ (10, busOutside (ring .n) bus) ∷ (8, tooShort room (cutSheet (ringCutSets ring bus))) ∷ [])
+unfoldable pub cutSetsRefusal : RingState → ℕ → ℕ → ℕ
+cutSetsRefusal state bus room =
+    let ring = state .ring in
+    firstMet ((9, badRecord state) ∷ (10, busOutside (ring .n) bus) ∷ (8, tooShort room (cutSheet (ringCutSets ring bus))) ∷ [])
 
 -- what the call gives: its answer, and the lent buffer after it
 pub record CutSetsReply : Type 0 where
@@ -112,7 +115,7 @@ unfoldable pub servedCutSets : List (List Part) → List ℕ → CutSetsReply
 servedCutSets sets buffer = record { answer = record { outcome = Served; count = length sets }; buffer = written (cutSheet sets) buffer }
 
 -- the whole answer of the call, served or refused
-unfoldable pub cutSetsReply : Ring → ℕ → List ℕ → CutSetsReply
-cutSetsReply ring bus buffer =
-    let k = cutSetsRefusal ring bus (length buffer) in
-    cond (eqb k 0) (servedCutSets (ringCutSets ring bus) buffer) (refusedCutSets k buffer)
+unfoldable pub cutSetsReply : RingState → ℕ → List ℕ → CutSetsReply
+cutSetsReply state bus buffer =
+    let k = cutSetsRefusal state bus (length buffer) in
+    cond (eqb k 0) (servedCutSets (ringCutSets (state .ring) bus) buffer) (refusedCutSets k buffer)

@@ -10,6 +10,7 @@ use Rattle.model.specs.Lists.{below}
 use Rattle.model.specs.Reports.{fileSize, fileCount, blankRing, withPlan}
 use Rattle.model.specs.Refusals.{fileRefusal}
 use Rattle.model.specs.Text.{ascii, decimal, spaced, joined, partName, refusedText, runRing}
+use Rattle.model.specs.States.{unloaded}
 use Rattle.model.specs.CutSets.{ringCutSets, cutSetsRefusal}
 
 -- a set's line, as `G1 GB2 BB3`; a lone `-` is the empty set
@@ -33,11 +34,11 @@ sheetRoom = 2 + 3 * 36051
 abbrev pub textRoom : ℕ
 textRoom = 10 + 15 * 36051
 
--- the text of a bus of a ring state; none where its list is refused
+-- the text of a bus of a ring without bookings; none where its list is refused
 unfoldable pub busCutText : Ring → ℕ → List ℕ
-busCutText ring bus = cond (eqb (cutSetsRefusal ring bus sheetRoom) 0) (cutText bus (ringCutSets ring bus)) []
+busCutText ring bus = cond (eqb (cutSetsRefusal (unloaded ring) bus sheetRoom) 0) (cutText bus (ringCutSets ring bus)) []
 
--- the ring state after a file's last report; that of a refused start where the file is refused
+-- the ring after a file's last report; that of a refused start where the file is refused
 unfoldable pub latestRing : List ℕ → Ring
 latestRing f = cond (eqb (fileRefusal f) 0) (withPlan (runRing f (fileCount f))) (blankRing 0)
 

@@ -13,3 +13,4 @@ pub mod Calls
 pub mod CutSets
 pub mod Spaced
 pub mod Scans
+pub mod Bookings

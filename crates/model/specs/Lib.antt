@@ -10,6 +10,8 @@ pub mod Reports
 pub mod Refusals
 pub mod Answers
 pub mod Text
+pub mod Bookings
+pub mod States
 pub mod CutSets
 pub mod CutText
 pub mod Scans

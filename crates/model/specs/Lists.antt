@@ -2,7 +2,7 @@
 use mathlib.Core.Bool.{Bool, true, false, _&&_, _||_, cond}
 use mathlib.Core.List.{List, [], _∷_, _++_, List·Memᴰ}
 use mathlib.Core.Option.{Option, none, some}
-use Prim.Native.Nat.{ℕ, zero, suc, _<_}
+use Prim.Native.Nat.{ℕ, zero, suc, _+_, _<_}
 
 -- the numbers below n, rising
 unfoldable pub below : ℕ → List ℕ
@@ -28,6 +28,11 @@ anyOf f (x ∷ xs) = let r = anyOf f xs in f x || r
 unfoldable pub allOf : {A : Type 0} → (A → Bool) → List A → Bool
 allOf f [] = true
 allOf f (x ∷ xs) = let r = allOf f xs in f x && r
+
+-- the numbers of a list together
+unfoldable pub sum : List ℕ → ℕ
+sum [] = 0
+sum (x ∷ xs) = x + sum xs
 
 -- nothing was found
 abbrev pub isNone : {A : Type 0} → Option A → Bool

@@ -71,8 +71,8 @@ unplanned n H C = anyOf (λ p. not (Bool·beq (C p) (commands n H p))) (parts la
 
 -- "In a record, number 9 is met when n is outside 3 to 20, a health is not one of its part's kind, a part above n is not
 -- fit or not ordered off or open, or the standing orders differ from those the health calls for."
-unfoldable pub badRecord : Ring → Bool
-badRecord ring =
+unfoldable pub badRing : Ring → Bool
+badRing ring =
     let H = healthOf (ring .health) in
     let C = commandsOf (ring .commands) in
     anyOf (λ met. met)
@@ -119,7 +119,7 @@ startRefusal n room = firstMet ((2, sizeOutside n) ∷ (8, tooShort room (nextSh
 -- "A step checks 9, 5, 6, 7, 8" (7: Note 3)
 unfoldable pub stepRefusal : Ring → Report → ℕ → ℕ
 stepRefusal ring r room =
-    firstMet ((9, badRecord ring) ∷ (reportConditions (ring .n) r ++ ((8, tooShort room (nextSheet (told ring r))) ∷ [])))
+    firstMet ((9, badRing ring) ∷ (reportConditions (ring .n) r ++ ((8, tooShort room (nextSheet (told ring r))) ∷ [])))
 
 -- "the plant reckoning 2, then 9 only for a part up to n whose health is not one of its kind"
 unfoldable pub feedsRefusal : ℕ → PartHealth → ℕ

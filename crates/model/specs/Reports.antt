@@ -1,4 +1,4 @@
--- Document 01, "Fault file and reports": the file's bytes, codes and words, and the ring state (document 01: ring record).
+-- Document 01, "Fault file and reports": the file's bytes, codes and words, and the ring of a ring state (document 01: ring record).
 use mathlib.Core.Bool.{false, cond}
 use mathlib.Core.List.{List, [], _∷_, map}
 use mathlib.Core.Option.{Option}
@@ -13,10 +13,11 @@ use Rattle.model.specs.declared.Report.{Report}
 use Rattle.model.specs.declared.Health.{Health}
 use Rattle.model.specs.declared.Commands.{Commands}
 use Rattle.model.specs.declared.Ring.{Ring}
+use Rattle.model.specs.declared.BusChoice.{BusChoice}
 use Rattle.model.specs.Lists.{below, first}
 use Rattle.model.specs.Values.{partCode, samePart, wordNumber}
 use Rattle.model.specs.Plant.{PartHealth, PartCommands, largest, generator, generatorBreaker, busBreaker, parts, allOff}
-use Rattle.model.specs.Choosing.{commands}
+use Rattle.model.specs.Choosing.{commands, choices}
 
 -- "Byte 0 is n."
 abbrev pub fileSize : List ℕ → ℕ
@@ -93,7 +94,7 @@ commandPlaces C =
 unfoldable pub blankRing : ℕ → Ring
 blankRing n = record { n = n; health = healthPlaces allFit; commands = commandPlaces allOff }
 
--- what a report does to a ring state before any command: its word's effect on the health
+-- what a report does to a ring before any command: its word's effect on the health
 unfoldable pub told : Ring → Report → Ring
 told ring r = record { n = ring .n; health = healthPlaces (reported (healthOf (ring .health)) r); commands = ring .commands }
 
@@ -101,6 +102,10 @@ told ring r = record { n = ring .n; health = healthPlaces (reported (healthOf (r
 unfoldable pub planned : Ring → PartCommands
 planned ring = commands (ring .n) (healthOf (ring .health))
 
--- the ring state with the commands that its health calls for: the one maker of ring states after a served call
+-- "the choices it calls for" (document 02, Note 2), bus by bus
+abbrev pub calledFor : Ring → List BusChoice
+calledFor ring = choices (ring .n) (healthOf (ring .health))
+
+-- the ring with the commands that its health calls for: the one maker of rings after a served call
 unfoldable pub withPlan : Ring → Ring
 withPlan ring = record { n = ring .n; health = ring .health; commands = commandPlaces (planned ring) }

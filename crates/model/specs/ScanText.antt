@@ -19,6 +19,6 @@ scanText i ring s =
     let k = scanRefusal ring s sheetRoom in
     cond (eqb k 0) (transitionLine i (toldAll ring (scanReports s))) (refusedText k)
 
--- the ring state behind it
+-- the ring behind it
 unfoldable pub scanState : Ring → Scan → Ring
 scanState ring s = cond (eqb (scanRefusal ring s sheetRoom) 0) (withPlan (toldAll ring (scanReports s))) ring

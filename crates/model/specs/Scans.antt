@@ -1,4 +1,4 @@
--- Document 02, Note 2, "Several reports from one scan": its reports, the ring state told all of them, its refusals and its whole answer.
+-- Document 02, Note 2, "Several reports from one scan": its reports, the ring told all of them, its refusals and its whole answer.
 use mathlib.Core.List.{List, [], _∷_}
 use Prim.Native.Nat.{ℕ}
 use lib.ListN.{length, take}
@@ -6,14 +6,14 @@ use Rattle.model.specs.declared.Report.{Report}
 use Rattle.model.specs.declared.Ring.{Ring}
 use Rattle.model.specs.declared.Scan.{Scan}
 use Rattle.model.specs.Reports.{told}
-use Rattle.model.specs.Refusals.{firstMet, orElse, badRecord, countAbove, nextSheet, reportConditions, sheetRefusal}
+use Rattle.model.specs.Refusals.{firstMet, orElse, badRing, countAbove, nextSheet, reportConditions, sheetRefusal}
 use Rattle.model.specs.Answers.{Reply, replyBy}
 
 -- "as 64 places and a count; places past the count are not read"
 abbrev pub scanReports : Scan → List Report
 scanReports s = take (s .count) (s .reports)
 
--- a ring state told several reports, first to last, before any command
+-- a ring told several reports, first to last, before any command
 unfoldable pub toldAll : Ring → List Report → Ring
 toldAll ring [] = ring
 toldAll ring (r ∷ rs) = toldAll (told ring r) rs
@@ -28,7 +28,7 @@ unfoldable pub scanRefusal : Ring → Scan → ℕ → ℕ
 scanRefusal ring s room =
     let reports = firstRefusal (ring .n) (scanReports s) in
     let own = sheetRefusal room (nextSheet (toldAll ring (scanReports s))) in
-    orElse (firstMet ((9, badRecord ring) ∷ (11, countAbove (s .count)) ∷ [])) (orElse reports own)
+    orElse (firstMet ((9, badRing ring) ∷ (11, countAbove (s .count)) ∷ [])) (orElse reports own)
 
 -- "The record and choices must be those that single steps would end with, and the sheet goes straight from the first standing orders
 -- to the last."; refused, ".. and nothing changes"

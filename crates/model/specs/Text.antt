@@ -129,7 +129,7 @@ printedRun f = joined (runLines f)
 unfoldable pub runLeft : List ℕ → ℕ → List ℕ
 runLeft f k = joined (drop k (runLines f))
 
--- the ring state behind the first k lines: none before line 0, which is the second; then that after the plan of the line before
+-- the ring behind the first k lines: none before line 0, which is the second; then that after the plan of the line before
 unfoldable pub stateAt : List ℕ → ℕ → Ring
 stateAt f zero = blankRing 0
 stateAt f (suc zero) = blankRing 0

@@ -53,11 +53,34 @@ pub struct Commands {
     pub bus_breakers: [bool; 20],
 }
 
-// The ring state (document 01: ring record): the standing command of each part beside its health.
+// What switching needs of a ring state (document 01: ring record): "n, each part's health and its standing order".
 pub struct Ring {
     pub n: u8,
     pub health: Health,
     pub commands: Commands,
+}
+
+// "A booking has a number from 0 to 65535, a bus and 1 to 100,000 watts" (document 02). Its bus and its watts have more values, so that
+// those outside the bounds can be handed in and refused.
+pub struct Booking {
+    pub number: u16,
+    pub bus: u8,
+    pub watts: u32,
+}
+
+// "The ring record holds the live bookings", in its first places, and "gives every generator's watts, .. and the watts on dark buses"
+// (document 02).
+pub struct Load {
+    pub bookings: [Booking; 64],
+    pub live: u8,
+    pub watts: [u32; 20],
+    pub dark_watts: u32,
+}
+
+// The ring state (document 01: ring record) as the calls take it and give it: the ring, and the load booked on it.
+pub struct RingState {
+    pub ring: Ring,
+    pub load: Load,
 }
 
 // What a bus is fed by: its own generator, or another by its high or low path (document 01: way).
@@ -92,11 +115,24 @@ pub enum Outcome {
     Refused(u8),
 }
 
-// What a start, a step or a scan answers.
+// What an inner start, step or scan answers: the ring alone.
 pub struct RingAnswer {
     pub outcome: Outcome,
     pub ring: Ring,
     pub choices: [BusChoice; 20],
+}
+
+// What a start, a step or a scan answers.
+pub struct StateAnswer {
+    pub outcome: Outcome,
+    pub state: RingState,
+    pub choices: [BusChoice; 20],
+}
+
+// What a booking or a cancellation answers.
+pub struct BookingAnswer {
+    pub outcome: Outcome,
+    pub state: RingState,
 }
 
 // What the plant reckoning answers.
@@ -111,7 +147,7 @@ pub struct CutSetsAnswer {
     pub count: u16,
 }
 
-// What the call for the ring state after a fault file's last report answers.
+// What the call for the ring after a fault file's last report answers.
 pub struct LatestAnswer {
     pub outcome: Outcome,
     pub ring: Ring,
@@ -142,7 +178,7 @@ pub enum FileAnswer {
     Refused(u8),
 }
 
-// How far the printed run of a file has come: the lines passed, of which a header or a refusal is one, and the ring state behind them.
+// How far the printed run of a file has come: the lines passed, of which a header or a refusal is one, and the ring behind them.
 pub struct RunCursor {
     pub place: usize,
     pub ring: Ring,

@@ -1,13 +1,16 @@
-// Ring states (document 01: ring records): the blank one, one that is told a report, and the answer that keeps one. Parts carry the
+// Rings: the blank one, one that is told a report, and the answer that keeps one; and a load without bookings. Parts carry the
 // paper's numbers, from 1; places are indices from 0.
 ghost use mathlib.Core.Path.{_≡_};
 ghost use Rattle.model.specs.Reports.{places, healthOf, healthPlaces, reported, blankRing, told as toldRing};
 ghost use Rattle.model.specs.Answers.{refusedAnswer};
+ghost use Rattle.model.specs.Bookings.{noLoad};
 ghost use Rattle.rings.specs.Words.{withValue};
+use model::Booking;
 use model::BusChoice;
 use model::Choice;
 use model::Commands;
 use model::Health;
+use model::Load;
 use model::Outcome;
 use model::Part;
 use model::Report;
@@ -84,6 +87,23 @@ pub fn blank(n: u8) -> Ring
             generator_breakers: [false; 20],
             bus_breakers: [false; 20],
         },
+    }
+}
+
+// A load without bookings (document 02, Note 5).
+pub fn no_load() -> Load
+    ensures { λ r. ⌜ r ≡ noLoad ⌝ }
+{
+    let none = Booking {
+        number: 0,
+        bus: 0,
+        watts: 0,
+    };
+    Load {
+        bookings: [none; 64],
+        live: 0,
+        watts: [0u32; 20],
+        dark_watts: 0,
     }
 }
 

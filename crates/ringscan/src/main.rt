@@ -4,17 +4,17 @@ ghost use mathlib.Core.Path.{_≡_};
 ghost use mathlib.Core.Bool.{false};
 ghost use Prim.Native.Nat.{_≤_};
 ghost use lib.ListN.{length};
-ghost use Rattle.model.specs.Refusals.{badRecord};
+ghost use Rattle.model.specs.Refusals.{badRing};
 ghost use Rattle.model.specs.Text.{lineRoom};
 use libc::STDERR_FILENO;
 use libc::STDIN_FILENO;
 use libc::STDOUT_FILENO;
 use model::Ring;
 
-// Prints the text of each scan, which gets the ring state that the call before it gave; false where one could not be written. A line's
+// Prints the text of each scan, which gets the ring that the call before it gave; false where one could not be written. A line's
 // number has at most four digits, so that a ring is handed at most 9999 scans.
 fn print_scans(started: Ring, out: &mut [u8]) -> bool
-    requires { ⌜ (badRecord started ≡ false) × (lineRoom ≤ length (now out)) ⌝ }
+    requires { ⌜ (badRing started ≡ false) × (lineRoom ≤ length (now out)) ⌝ }
 {
     let mut ring = started;
     for i in 1..10000usize {

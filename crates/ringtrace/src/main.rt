@@ -11,6 +11,7 @@ use model::FileAnswer;
 use model::Health;
 use model::ReportAnswer;
 use model::Ring;
+use model::RingState;
 
 // A byte behind a text of this length; what has no room is left out. The lines here have room: none is longer than 260.
 fn append(out: &mut [u8; 320], length: usize, byte: u8) -> usize {
@@ -175,20 +176,21 @@ fn print_call(number: usize, before: Commands, after: Ring, sheet: &[u8; 122]) -
 }
 
 // The calls of the reports.
-fn print_reports(first: Ring, codes: &[u8], words: &[u8]) -> bool {
-    let mut ring = first;
+fn print_reports(first: RingState, codes: &[u8], words: &[u8]) -> bool {
+    let mut state = first;
     let mut i = 0;
     while i < codes.len() {
         let number = i + 1;
+        let ring = state.ring;
         match reports::report_at(ring.n, codes, words, i) {
             ReportAnswer::Read(report) => {
                 let mut sheet = [0u8; 122];
-                let answer = control::step(ring, report, &mut sheet);
-                let after = answer.ring;
+                let answer = control::step(state, report, &mut sheet);
+                state = answer.state;
+                let after = state.ring;
                 if !print_call(number, ring.commands, after, &sheet) {
                     return false;
                 }
-                ring = after;
                 i = number;
             }
             ReportAnswer::Refused(_) => {
@@ -206,7 +208,8 @@ fn print_reports(first: Ring, codes: &[u8], words: &[u8]) -> bool {
 fn print_served(n: u8, codes: &[u8], words: &[u8]) -> bool {
     let mut sheet = [0u8; 122];
     let answer = control::start(n, &mut sheet);
-    let ring = answer.ring;
+    let state = answer.state;
+    let ring = state.ring;
     let off = Commands {
         generators: [false; 20],
         generator_breakers: [false; 20],
@@ -218,7 +221,7 @@ fn print_served(n: u8, codes: &[u8], words: &[u8]) -> bool {
         && io::print_decimal(STDOUT_FILENO, codes.len() as u64)
         && io::write_all(STDOUT_FILENO, b"\n")
         && print_call(0, off, ring, &sheet)
-        && print_reports(ring, codes, words)
+        && print_reports(state, codes, words)
 }
 
 // The number of a refused file.

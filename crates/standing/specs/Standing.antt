@@ -1,4 +1,4 @@
--- The standing commands of a ring state: whether a part above n is active, and whether two sets of commands differ.
+-- The standing commands of a ring: whether a part above n is active, and whether two sets of commands differ.
 use mathlib.Core.Path.{_≡_, refl}
 use mathlib.Core.Bool.{Bool, true, false, not, _&&_, _||_, Bool·beq}
 use mathlib.Core.Logic.{_⊎_, inl, inr, _≢_}

@@ -1,4 +1,4 @@
-// The standing commands of a ring state (document 01: ring record), for refusal 9. Places of arrays are indices from 0.
+// The standing commands of a ring, for refusal 9. Places of arrays are indices from 0.
 ghost use mathlib.Core.Path.{_≡_};
 ghost use mathlib.Core.Bool.{not, _||_};
 ghost use Prim.Native.Nat.{_≤_};

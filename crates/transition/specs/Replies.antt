@@ -18,7 +18,7 @@ use Rattle.model.specs.Reports.{blankRing, told}
 use Rattle.model.specs.Refusals.{
   firstMet,
   orElse,
-  badRecord,
+  badRing,
   countAbove,
   nextSheet,
   reportConditions,
@@ -60,7 +60,7 @@ module _ (k reports : ℕ) (ring all-told : Ring) (buffer : List ℕ)
       rw early (gives-refused _ _ _ _ _ (z .1) (is ∙ ap (λ l. refusedAnswer l ring) (sym (z .0))))
 
 -- the step of a good record
-module _ (ring : Ring) (good : badRecord ring ≡ false) (r : Report) (buffer : List ℕ) (o : Outcome)
+module _ (ring : Ring) (good : badRing ring ≡ false) (r : Report) (buffer : List ℕ) (o : Outcome)
     (checked : o ≡ outcomeOf (firstMet (reportConditions (ring .n) r))) (a : RingAnswer) where
   pub step-advanced : o ≡ Served → (next kept : Ring) (after : List ℕ)
       → Gives (sheetRefusal (length buffer) (nextSheet next)) next kept buffer a after → next ≡ told ring r → kept ≡ ring
@@ -72,7 +72,7 @@ module _ (ring : Ring) (good : badRecord ring ≡ false) (r : Report) (buffer : 
   step-refused = reports-bad _ _ ring (told ring r) buffer (step-refusal ring good r (length buffer)) o checked a
 
 -- the scan of a good record
-module _ (ring : Ring) (good : badRecord ring ≡ false) (s : Scan) where
+module _ (ring : Ring) (good : badRing ring ≡ false) (s : Scan) where
   -- the ring told the scan's reports
   abbrev scanned : Ring
   scanned = toldAll ring (scanReports s)

@@ -1,11 +1,11 @@
-// The inner start, step and scan, for callers that hold a ring state (document 01: ring record) made by start, steps and scans.
+// The inner start, step and scan, for callers that hold a ring made by start, steps and scans: what they switch does not depend on load.
 ghost use mathlib.Core.Path.{_≡_};
 ghost use mathlib.Core.Bool.{false};
 ghost use Prim.Native.Nat.{_≤_};
 ghost use lib.ListN.{length};
 ghost use Rattle.model.specs.Values.{outcomeNumber, choiceValues};
 ghost use Rattle.model.specs.Reports.{blankRing, told as toldRing};
-ghost use Rattle.model.specs.Refusals.{badRecord, nextSheet, sheetRefusal, startRefusal, stepRefusal};
+ghost use Rattle.model.specs.Refusals.{badRing, nextSheet, sheetRefusal, startRefusal, stepRefusal};
 ghost use Rattle.model.specs.Answers.{replyBy, startReply, stepReply, callValues};
 ghost use Rattle.model.specs.Scans.{scanReports, toldAll, scanRefusal, scanReply};
 use model::Outcome;
@@ -59,9 +59,9 @@ pub fn start(n: u8, buffer: &mut [u8]) -> RingAnswer
 }
 
 // "A step takes a record and a report, and gives the new record, each bus's choice and the sheet." An inner call: refusal 9 does not
-// meet the ring state, which start, steps and scans made or its callers have checked.
+// meet the ring, which start, steps and scans made or its callers have checked.
 pub fn step(ring: Ring, report: Report, buffer: &mut [u8]) -> RingAnswer
-    requires { ⌜ badRecord ring ≡ false ⌝ }
+    requires { ⌜ badRing ring ≡ false ⌝ }
     ensures answer { λ r. ⌜ r ≡ stepReply ring report (now (buffer .entry)) .answer ⌝ }
     ensures bytes { λ r. ⌜ now (buffer .exit) ≡ stepReply ring report (now (buffer .entry)) .buffer ⌝ }
     ensures number { λ r. ⌜ outcomeNumber (r .outcome) ≡ stepRefusal ring report (length (now (buffer .entry))) ⌝ }
@@ -77,10 +77,10 @@ pub fn step(ring: Ring, report: Report, buffer: &mut [u8]) -> RingAnswer
 }
 
 // "The record and choices must be those that single steps would end with, and the sheet goes straight from the first standing orders to
-// the last.": told all its reports, the ring is planned once. An inner call: refusal 9 does not meet the ring state, which start, steps
+// the last.": told all its reports, the ring is planned once. An inner call: refusal 9 does not meet the ring, which start, steps
 // and scans made or its callers have checked.
 pub fn scan(ring: Ring, scan: Scan, buffer: &mut [u8]) -> RingAnswer
-    requires { ⌜ badRecord ring ≡ false ⌝ }
+    requires { ⌜ badRing ring ≡ false ⌝ }
     ensures answer { λ r. ⌜ r ≡ scanReply ring scan (now (buffer .entry)) .answer ⌝ }
     ensures bytes { λ r. ⌜ now (buffer .exit) ≡ scanReply ring scan (now (buffer .entry)) .buffer ⌝ }
     ensures number { λ r. ⌜ outcomeNumber (r .outcome) ≡ scanRefusal ring scan (length (now (buffer .entry))) ⌝ }

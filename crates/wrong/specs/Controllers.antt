@@ -2,20 +2,26 @@
 -- has its wrong controller; the right one fails no claim, whatever the calls.
 use mathlib.Core.Path.{_≡_, refl}
 use mathlib.Core.Bool.{Bool, true, false, not, _&&_, _||_, cond}
-use mathlib.Core.List.{List, [], _∷_, _++_, map, flatMap, Permᴰ·refl}
-use Prim.Native.Nat.{ℕ, _-_}
+use mathlib.Core.Logic.{_⊎_, inl, inr}
+use mathlib.Core.List.{List, [], _∷_, _++_, map, flatMap, Permᴰ·refl, List·Memᴰ·append-cases}
+use Prim.Native.Nat.{ℕ, zero, suc, _-_}
 use native.Mathlib.Omega.{arith}
 use lib.Dec.{eqb}
-use lib.ListN.{length, take, drop, set, replicate}
+use lib.ListN.{length, getD, take, drop, set, replicate}
 use Rattle.model.specs.declared.Part.{Part}
 use Rattle.model.specs.declared.Part.the-variants.{Generator, GeneratorBreaker, BusBreaker}
 use Rattle.model.specs.declared.Word.{Word}
 use Rattle.model.specs.declared.Word.the-variants.{Fit, StuckOff, StuckOpen, StuckClosed}
 use Rattle.model.specs.declared.Report.{Report}
 use Rattle.model.specs.declared.Scan.{Scan}
+use Rattle.model.specs.declared.Booking.{Booking}
+use Rattle.model.specs.declared.Load.{Load}
 use Rattle.model.specs.declared.Ring.{Ring}
+use Rattle.model.specs.declared.RingState.{RingState}
+use Rattle.model.specs.declared.BookingAnswer.{BookingAnswer}
+use Rattle.model.specs.declared.Outcome.the-variants as outcome
 use Rattle.model.specs.declared.Feed.the-variants as feed
-use Rattle.model.specs.Lists.{allOf, _∈_, below, keep, first, anyOf}
+use Rattle.model.specs.Lists.{allOf, _∈_, below, keep, first, anyOf, sum}
 use Rattle.model.specs.Plant.{busFeed, parts, healthOfKind, next, up, arc, connected, feeds, feeders, feedBy}
 use Rattle.model.specs.Choosing.{
   choices,
@@ -46,8 +52,44 @@ use Rattle.model.specs.Reports.{
   planned,
   withPlan,
 }
-use Rattle.model.specs.Answers.{Reply, refusedReply, servedReply, startReply, allDark, refusedAnswer, servedAnswer, stepReply}
-use Rattle.model.specs.Scans.{scanReports, toldAll, firstRefusal, scanRefusal, scanReply}
+use Rattle.model.specs.Answers.{allDark}
+use Rattle.model.specs.Scans.{scanReports, toldAll, firstRefusal, scanRefusal}
+use Rattle.model.specs.Bookings.{
+  liveBookings,
+  noBooking,
+  noLoad,
+  totalWatts,
+  wattsOf,
+  withFigures,
+  withBooking,
+  withoutBooking,
+  wattsOutside,
+  isLive,
+  noPlace,
+  liveTwice,
+  bookingOutside,
+  otherFigures,
+  badLoad,
+}
+use Rattle.model.specs.States.{
+  unloaded,
+  toldState,
+  reckoned,
+  badRecord,
+  stateRefusal,
+  StateReply,
+  servedBy,
+  refusedBy,
+  servedState,
+  refusedState,
+  stateStart,
+  stateStep,
+  stateScan,
+  bookRefusal,
+  cancelRefusal,
+  bookAnswer,
+  cancelAnswer,
+}
 use Rattle.model.specs.Laws.Lists.{all-at}
 use Rattle.model.specs.Laws.Refusals.{served-refused}
 use Rattle.demands.specs.Statements.Demand3.{
@@ -57,9 +99,14 @@ use Rattle.demands.specs.Statements.Demand3.{
   Call,
   step,
   scan,
+  BookingCall,
+  book,
+  cancel,
   Calls,
   nothing,
   _then_,
+  _also_,
+  noted,
   whole,
   in-first,
   in-call,
@@ -96,9 +143,11 @@ use Rattle.demands.specs.Refuting.Claims.{
   hasOperation,
   otherOutcome,
   rises,
-  sum,
   digest,
   ringSum,
+  bookingsDigest,
+  loadDigest,
+  stateSum,
   choiceNumber,
   choicesSum,
   operationNumber,
@@ -124,6 +173,11 @@ use Rattle.demands.specs.Refuting.Claims.{
   otherCommand,
   unfitAbove,
   onAbove,
+  otherLive,
+  otherWatts,
+  wattsAbove,
+  otherDarkWatts,
+  otherSum,
   anyClash,
   otherChoice,
   newCommands,
@@ -139,10 +193,14 @@ use Rattle.demands.specs.Refuting.Claims.{
   atPhases,
   atStart,
   atEnd,
+  atLast,
+  atEither,
+  atBooking,
 }
 use Rattle.demands.specs.Proofs.Answering.{fullRoom, callNumber}
+use Rattle.demands.specs.Proofs.Booking.{bookingNumber}
 use Rattle.demands.specs.Refuting.Facts.{report, generator1Off, breaker1Closed, breaker2Open, breaker2Fit}
-use Rattle.demands.specs.Refuting.Runs.{run-ended, ordered, bothPhases, worldAfter, afterCall, run}
+use Rattle.demands.specs.Refuting.Runs.{run-ended, ordered, bothPhases, worldAfter, afterCall, afterBooking, run}
 use Rattle.demands.specs.Refuting.Refuted.{refutes3, refutes2}
 use Rattle.wrong.specs.Designs.{
   designController,
@@ -151,11 +209,19 @@ use Rattle.wrong.specs.Designs.{
   startSpoilt,
   stepSpoilt,
   scanSpoilt,
+  bookingsSpoilt,
   whenRefused,
   whenServed,
+  whenNotBooked,
+  whenBooked,
+  ofRing,
+  ofLoad,
+  withState,
   withRing,
+  withLoad,
   withChoices,
   withBuffer,
+  givingState,
   allBusesDark,
   givesUp,
   emptyPhases,
@@ -179,6 +245,7 @@ use Rattle.wrong.specs.Designs.{
   designCommands,
   designSheet,
   designChoices,
+  designReckoned,
   designServed,
   designBad,
   designStart,
@@ -201,7 +268,8 @@ use Rattle.model.specs.Refusals.{
   healthOutside,
   activeAbove,
   unplanned,
-  badRecord,
+  badRing,
+  busOutside,
   countAbove,
   nextSheet,
   reportConditions,
@@ -253,11 +321,11 @@ callsOf (r ∷ rs) = callsOf rs then step r fullRoom
 
 -- a start of n with a buffer
 unfoldable pub starting : ℕ → List ℕ → Instance
-starting n buffer = record { size = n; lending = buffer; calls = nothing; call = step generator1Off fullRoom; backward = false; done = 0 }
+starting n buffer = record { size = n; lending = buffer; calls = nothing; call = step generator1Off fullRoom; booking = cancel 0; backward = false; done = 0 }
 
 -- a ring of three that was handed some reports, the last first, and then a report with a buffer
 unfoldable pub handed : List Report → Report → List ℕ → Instance
-handed rs r buffer = record { size = 3; lending = fullRoom; calls = callsOf rs; call = step r buffer; backward = false; done = 0 }
+handed rs r buffer = record { size = 3; lending = fullRoom; calls = callsOf rs; call = step r buffer; booking = cancel 0; backward = false; done = 0 }
 
 -- .. with room for every sheet
 abbrev pub after : List Report → Report → Instance
@@ -273,19 +341,28 @@ countedAs k s = record { reports = s .reports; count = k }
 
 -- a ring of three that was handed some calls, and then a call
 unfoldable pub calling : Calls → Call → Instance
-calling cs c = record { size = 3; lending = fullRoom; calls = cs; call = c; backward = false; done = 0 }
+calling cs c = record { size = 3; lending = fullRoom; calls = cs; call = c; booking = cancel 0; backward = false; done = 0 }
 
 -- a started ring of three, and then a scan, with room for every sheet
 unfoldable pub scanning : Scan → Instance
 scanning s = calling nothing (scan s fullRoom)
 
+-- a ring of three that was handed some calls, and then a booking or a cancellation
+unfoldable pub bookingAfter : Calls → BookingCall → Instance
+bookingAfter cs b =
+    record { size = 3; lending = fullRoom; calls = cs; call = step generator1Off fullRoom; booking = b; backward = false; done = 0 }
+
+-- .. or then nothing
+unfoldable pub ending : Calls → Instance
+ending cs = bookingAfter cs (cancel 0)
+
 -- interrupted after k operations of a phase
 unfoldable pub halted : ℕ → Instance → Instance
-halted k i = record { size = i .size; lending = i .lending; calls = i .calls; call = i .call; backward = i .backward; done = k }
+halted k i = record { size = i .size; lending = i .lending; calls = i .calls; call = i .call; booking = i .booking; backward = i .backward; done = k }
 
 -- each phase's operations the other way round
 unfoldable pub reversed : Instance → Instance
-reversed i = record { size = i .size; lending = i .lending; calls = i .calls; call = i .call; backward = true; done = i .done }
+reversed i = record { size = i .size; lending = i .lending; calls = i .calls; call = i .call; booking = i .booking; backward = true; done = i .done }
 
 -- ---- spoilt controllers
 
@@ -294,17 +371,17 @@ unfoldable pub sheetWith : ℕ → ℕ → List (ℕ × ℕ) → List ℕ → Li
 sheetWith k l os buffer = written (k ∷ l ∷ (map (λ o. o .0) os ++ map (λ o. o .1) os)) buffer
 
 -- served starts, or steps, and refused ones, altered
-unfoldable pub startRefusing : (Reply → Reply) → Controller
+unfoldable pub startRefusing : (StateReply → StateReply) → Controller
 startRefusing f = startSpoilt (λ n buffer reply. whenRefused f reply)
 
-unfoldable pub startServing : (Reply → Reply) → Controller
+unfoldable pub startServing : (StateReply → StateReply) → Controller
 startServing f = startSpoilt (λ n buffer reply. whenServed f reply)
 
-unfoldable pub stepRefusing : (Reply → Reply) → Controller
-stepRefusing f = stepSpoilt (λ ring r buffer reply. whenRefused f reply)
+unfoldable pub stepRefusing : (StateReply → StateReply) → Controller
+stepRefusing f = stepSpoilt (λ state r buffer reply. whenRefused f reply)
 
-unfoldable pub stepServing : (Reply → Reply) → Controller
-stepServing f = stepSpoilt (λ ring r buffer reply. whenServed f reply)
+unfoldable pub stepServing : (StateReply → StateReply) → Controller
+stepServing f = stepSpoilt (λ state r buffer reply. whenServed f reply)
 
 -- every served start writes this sheet, or every served step
 unfoldable pub startWrites : ℕ → ℕ → List (ℕ × ℕ) → Controller
@@ -365,38 +442,38 @@ commandAbove ring =
 
 -- refuses the start of a ring of 20, every start, every report
 unfoldable pub refusesTwenty : Controller
-refusesTwenty = startSpoilt (λ n buffer reply. cond (eqb n 20) (refusedReply 5 (blankRing 0) buffer) reply)
+refusesTwenty = startSpoilt (λ n buffer reply. cond (eqb n 20) (refusedBy 5 (unloaded (blankRing 0)) buffer) reply)
 
 unfoldable pub refusesStarts : Controller
-refusesStarts = startSpoilt (λ n buffer reply. refusedReply 2 (blankRing 0) buffer)
+refusesStarts = startSpoilt (λ n buffer reply. refusedBy 2 (unloaded (blankRing 0)) buffer)
 
 unfoldable pub refusesReports : Controller
-refusesReports = stepSpoilt (λ ring r buffer reply. refusedReply 5 ring buffer)
+refusesReports = stepSpoilt (λ state r buffer reply. refusedBy 5 state buffer)
 
 -- serves every start, every report
 unfoldable pub servesStarts : Controller
-servesStarts = startSpoilt (λ n buffer reply. servedReply (blankRing n) buffer)
+servesStarts = startSpoilt (λ n buffer reply. servedBy (unloaded (blankRing n)) buffer)
 
 unfoldable pub servesReports : Controller
-servesReports = stepSpoilt (λ ring r buffer reply. servedReply (told ring r) buffer)
+servesReports = stepSpoilt (λ state r buffer reply. servedBy (toldState state (r ∷ [])) buffer)
 
 -- served scans and refused ones, altered
-unfoldable pub scanRefusing : (Reply → Reply) → Controller
-scanRefusing f = scanSpoilt (λ ring s buffer reply. whenRefused f reply)
+unfoldable pub scanRefusing : (StateReply → StateReply) → Controller
+scanRefusing f = scanSpoilt (λ state s buffer reply. whenRefused f reply)
 
-unfoldable pub scanServing : (Reply → Reply) → Controller
-scanServing f = scanSpoilt (λ ring s buffer reply. whenServed f reply)
+unfoldable pub scanServing : (StateReply → StateReply) → Controller
+scanServing f = scanSpoilt (λ state s buffer reply. whenServed f reply)
 
 unfoldable pub scanWrites : ℕ → ℕ → List (ℕ × ℕ) → Controller
 scanWrites k l os = scanServing (withBuffer (sheetWith k l os))
 
 -- serves every scan with reports of its own choice
 unfoldable pub scanTelling : (Scan → List Report) → Controller
-scanTelling f = scanSpoilt (λ ring s buffer reply. servedReply (toldAll ring (f s)) buffer)
+scanTelling f = scanSpoilt (λ state s buffer reply. servedBy (toldState state (f s)) buffer)
 
 -- .. where the scan is to be served
 unfoldable pub scanServingBy : (Scan → List Report) → Controller
-scanServingBy f = scanSpoilt (λ ring s buffer reply. whenServed (λ right. servedReply (toldAll ring (f s)) buffer) reply)
+scanServingBy f = scanSpoilt (λ state s buffer reply. whenServed (λ right. servedBy (toldState state (f s)) buffer) reply)
 
 -- the last report of some
 unfoldable pub lastOf : List Report → List Report
@@ -427,8 +504,8 @@ takesLastWord = scanServingBy (λ s. lastOf (scanReports s))
 -- sends the sheet of the last single step
 unfoldable pub sendsLastSheet : Controller
 sendsLastSheet =
-    scanSpoilt (λ ring s buffer reply.
-    let rs = scanReports s in whenServed (λ right. servedReply (toldAll (beforeLast ring rs) (lastOf rs)) buffer) reply)
+    scanSpoilt (λ state s buffer reply.
+    let rs = scanReports s in whenServed (λ right. servedBy (toldState (ofRing (λ ring. beforeLast ring rs) state) (lastOf rs)) buffer) reply)
 
 -- takes the words of a scan in another order; reads places past the count
 unfoldable pub takesWordsBackwards : Controller
@@ -440,24 +517,24 @@ readsPastCount = scanServingBy (λ s. take 3 (s .reports))
 -- serves the reports before the bad one
 unfoldable pub servesBeforeBad : Controller
 servesBeforeBad =
-    scanSpoilt (λ ring s buffer reply.
-    whenRefused (λ right. servedReply (toldAll ring (goodFront (ring .n) (scanReports s))) buffer) reply)
+    scanSpoilt (λ state s buffer reply.
+    whenRefused (λ right. servedBy (toldState state (goodFront (state .ring .n) (scanReports s))) buffer) reply)
 
 -- serves every scan; refuses one of 64 reports; refuses by the last bad report; asks 8 of the first step
 unfoldable pub servesScans : Controller
 servesScans = scanTelling scanReports
 
 unfoldable pub refuses64 : Controller
-refuses64 = scanSpoilt (λ ring s buffer reply. cond (eqb (s .count) 64) (refusedReply 11 ring buffer) reply)
+refuses64 = scanSpoilt (λ state s buffer reply. cond (eqb (s .count) 64) (refusedBy 11 state buffer) reply)
 
 unfoldable pub refusesByLast : Controller
 refusesByLast =
-    scanSpoilt (λ ring s buffer reply. whenRefused (λ right. refusedReply (firstRefusal (ring .n) (lastOf (scanReports s))) ring buffer) reply)
+    scanSpoilt (λ state s buffer reply. whenRefused (λ right. refusedBy (firstRefusal (state .ring .n) (lastOf (scanReports s))) state buffer) reply)
 
 unfoldable pub asksFirstStep : Controller
 asksFirstStep =
-    scanSpoilt (λ ring s buffer reply.
-    cond (tooShort (length buffer) (nextSheet (toldAll ring (take 1 (scanReports s))))) (refusedReply 8 ring buffer) reply)
+    scanSpoilt (λ state s buffer reply.
+    cond (tooShort (length buffer) (nextSheet (toldAll (state .ring) (take 1 (scanReports s))))) (refusedBy 8 state buffer) reply)
 
 -- word 0 for a generator
 unfoldable pub returnOf : Part → Word → Bool
@@ -473,14 +550,14 @@ isReturn r = returnOf (r .part) (r .word)
 
 -- gives 7 to a generator's return, in a step or in a scan
 unfoldable pub refusesReturns : Controller
-refusesReturns = stepSpoilt (λ ring r buffer reply. cond (isReturn r) (refusedReply 7 ring buffer) reply)
+refusesReturns = stepSpoilt (λ state r buffer reply. cond (isReturn r) (refusedBy 7 state buffer) reply)
 
 unfoldable pub refusesReturnsInScans : Controller
-refusesReturnsInScans = scanSpoilt (λ ring s buffer reply. cond (anyOf isReturn (scanReports s)) (refusedReply 7 ring buffer) reply)
+refusesReturnsInScans = scanSpoilt (λ state s buffer reply. cond (anyOf isReturn (scanReports s)) (refusedBy 7 state buffer) reply)
 
 -- leaves a generator off that returns, in a step or in a scan
 unfoldable pub keepsOff : Controller
-keepsOff = stepSpoilt (λ ring r buffer reply. cond (isReturn r) (servedReply ring buffer) reply)
+keepsOff = stepSpoilt (λ state r buffer reply. cond (isReturn r) (servedBy state buffer) reply)
 
 unfoldable pub keepsOffInScans : Controller
 keepsOffInScans = scanServingBy (λ s. keep (λ r. not (isReturn r)) (scanReports s))
@@ -488,24 +565,132 @@ keepsOffInScans = scanServingBy (λ s. keep (λ r. not (isReturn r)) (scanReport
 -- records that a generator is fit again, and stays with the generators that run
 unfoldable pub passesReturned : Controller
 passesReturned =
-    stepSpoilt (λ ring r buffer reply.
-    cond (isReturn r) (withRing (λ old. record { n = old .n; health = told ring r .health; commands = old .commands }) (servedReply ring buffer)) reply)
+    stepSpoilt (λ state r buffer reply.
+    cond (isReturn r) (withRing (λ old. record { n = old .n; health = told (state .ring) r .health; commands = old .commands }) (servedBy state buffer)) reply)
 
 -- lets the orders of a failed generator stand, which cannot run: opens and stops nothing
 unfoldable pub leavesOrders : Controller
 leavesOrders =
-    stepSpoilt (λ ring r buffer reply.
-    let old = commandsOf (ring .commands) in
-    let next = told ring r in
-    cond (isReturn r) (servedReply next buffer)
+    stepSpoilt (λ state r buffer reply.
+    let old = commandsOf (state .ring .commands) in
+    let next = told (state .ring) r in
+    cond (isReturn r) (servedBy (toldState state (r ∷ [])) buffer)
     (withRing (λ a. record { n = a .n; health = a .health; commands = commandPlaces (λ p. old p || planned next p) })
-    (withBuffer (λ bytes. written (sheetOf [] (closing (ring .n) old (plan (ring .n) (healthOf (next .health))))) bytes) reply)))
+    (withBuffer (λ bytes. written (sheetOf [] (closing (state .ring .n) old (plan (state .ring .n) (healthOf (next .health))))) bytes) reply)))
+
+-- ---- controllers spoilt in bookings
+
+-- served and refused, as answers to a booking or a cancellation
+abbrev bookedTo : RingState → BookingAnswer
+bookedTo state = record { outcome = outcome.Served; state = state }
+
+abbrev turnedAway : ℕ → RingState → BookingAnswer
+turnedAway k state = record { outcome = outcome.Refused k; state = state }
+
+-- bookings alone, or cancellations alone
+unfoldable pub bookSpoilt : (RingState → Booking → BookingAnswer → BookingAnswer) → Controller
+bookSpoilt f = bookingsSpoilt f (λ state v answer. answer)
+
+unfoldable pub cancelSpoilt : (RingState → ℕ → BookingAnswer → BookingAnswer) → Controller
+cancelSpoilt g = bookingsSpoilt (λ state b answer. answer) g
+
+-- the load that served bookings give, altered
+unfoldable pub bookGiving : (Load → Load) → Controller
+bookGiving f = bookSpoilt (λ state b answer. whenBooked (givingState (ofLoad f)) answer)
+
+-- .. served cancellations, knowing the load handed in
+unfoldable pub cancelGiving : (ℕ → Load → Load → Load) → Controller
+cancelGiving f = cancelSpoilt (λ state v answer. whenBooked (givingState (ofLoad (f v (state .load)))) answer)
+
+-- a load with other figures
+abbrev pub figures : List ℕ → ℕ → Load → Load
+figures watts dark l = record { bookings = l .bookings; live = l .live; watts = watts; «dark_watts» = dark }
+
+-- .. those of another load; without the watts on dark buses; each booking by its bus's own generator; a watt more of G4
+abbrev pub figuresOf : Load → Load → Load
+figuresOf old l = figures (old .watts) (old .«dark_watts») l
+
+abbrev pub darkLeftOut : Load → Load
+darkLeftOut l = figures (l .watts) 0 l
+
+abbrev pub byOwnGenerator : Load → Load
+byOwnGenerator l = figures (places (λ g. totalWatts (keep (λ b. eqb (b .bus) (suc g)) (liveBookings l)))) 0 l
+
+abbrev pub wattAbove : Load → Load
+wattAbove l = figures (set (l .watts) 3 1) (l .«dark_watts») l
+
+-- a load with other bookings
+abbrev pub holding : List Booking → ℕ → Load → Load
+holding bs k l = record { bookings = bs; live = k; watts = l .watts; «dark_watts» = l .«dark_watts» }
+
+-- the figures stay as they were handed in: in steps, in scans, in bookings, in cancellations
+unfoldable pub figuresStayInSteps : Controller
+figuresStayInSteps = stepSpoilt (λ state r buffer reply. whenServed (withLoad (figuresOf (state .load))) reply)
+
+unfoldable pub figuresStayInScans : Controller
+figuresStayInScans = scanSpoilt (λ state s buffer reply. whenServed (withLoad (figuresOf (state .load))) reply)
+
+unfoldable pub figuresStayInBookings : Controller
+figuresStayInBookings =
+    bookSpoilt (λ state b answer. whenBooked (givingState (ofLoad (figuresOf (state .load)))) answer)
+
+unfoldable pub countsCancelled : Controller
+countsCancelled = cancelGiving (λ v old l. figuresOf old l)
+
+-- a cancelled booking is kept; or its place is emptied and stays among the live ones
+unfoldable pub keepsCancelled : Controller
+keepsCancelled = cancelGiving (λ v old l. old)
+
+unfoldable pub emptiesPlaces : Controller
+emptiesPlaces =
+    cancelGiving (λ v old l. holding (map (λ b. cond (eqb (b .number) v) noBooking b) (old .bookings)) (old .live) l)
+
+-- a served booking is not kept
+unfoldable pub forgetsBookings : Controller
+forgetsBookings = bookSpoilt (λ state b answer. whenBooked (givingState (λ given. state)) answer)
+
+-- a place serves once: what was in the last one stays there when the others move up, and where it holds anything a booking gets 14
+unfoldable pub placesServeOnce : Controller
+placesServeOnce =
+    bookingsSpoilt (λ state b answer. cond (eqb (getD (state .load .bookings) 63 noBooking .watts) 0) answer (turnedAway 14 state))
+    (λ state v answer.
+    whenBooked (givingState (ofLoad (λ l. holding (take (l .live) (l .bookings) ++ drop (l .live) (state .load .bookings)) (l .live) l))) answer)
+
+-- a number is asked of every place, live or not
+unfoldable pub asksEveryPlace : Controller
+asksEveryPlace = bookSpoilt (λ state b answer. cond (isLive (state .load .bookings) (b .number)) (turnedAway 13 state) answer)
+
+-- serves every booking, every cancellation
+unfoldable pub servesBookings : Controller
+servesBookings = bookSpoilt (λ state b answer. bookedTo (reckoned (state .ring) (withBooking (state .load) b)))
+
+unfoldable pub servesCancellations : Controller
+servesCancellations = cancelSpoilt (λ state v answer. bookedTo (reckoned (state .ring) (withoutBooking (state .load) v)))
+
+-- refuses every booking that passes a test, before anything else is asked
+unfoldable pub refusesFirst : ℕ → (RingState → Booking → Bool) → Controller
+refusesFirst k f = bookSpoilt (λ state b answer. cond (f state b) (turnedAway k state) answer)
+
+unfoldable pub refusesCancellations : Controller
+refusesCancellations = cancelSpoilt (λ state v answer. turnedAway 13 state)
+
+-- what a refused booking or cancellation alters
+unfoldable pub bookRefusing : (Load → Load) → Controller
+bookRefusing f = bookSpoilt (λ state b answer. whenNotBooked (givingState (ofLoad f)) answer)
+
+unfoldable pub cancelRefusing : (Load → Load) → Controller
+cancelRefusing f = cancelSpoilt (λ state v answer. whenNotBooked (givingState (ofLoad f)) answer)
+
+-- switches every bus off where there is a booking, in what it shows
+unfoldable pub shedsLoad : Controller
+shedsLoad =
+    stepSpoilt (λ state r buffer reply. cond (eqb (state .load .live) 0) reply (whenServed (withChoices allDark) reply))
 
 -- shows the choices of a ring of three without faults, or none
-unfoldable pub fitChoices : Reply → Reply
+unfoldable pub fitChoices : StateReply → StateReply
 fitChoices reply = withChoices (choices 3 allFit) reply
 
-unfoldable pub noChoices : Reply → Reply
+unfoldable pub noChoices : StateReply → StateReply
 noChoices reply = withChoices allDark reply
 
 -- ---- demand 3: a wrong controller, the claim that it fails, and where
@@ -683,10 +868,110 @@ wrongOrders =
     (scan (scanOf (generator3Fit ∷ [])) fullRoom))
     ∷ []
 
-unfoldable pub wrongs3 : List Row3
-wrongs3 =
+-- a booking
+abbrev booking : ℕ → ℕ → ℕ → Booking
+booking v bus w = record { number = v; bus = bus; watts = w }
+
+-- 500 W on B3, which G2 feeds after the start of a ring of three, and then nothing or its cancellation
+abbrev booked : Calls
+booked = nothing also book (booking 7 3 500)
+
+abbrev cancelled : Calls
+cancelled = booked also cancel 7
+
+-- every generator of a ring of three fails in one scan
+abbrev allOffAtOnce : Call
+allOffAtOnce = scan (scanOf (generator1Off ∷ generator2Off ∷ generator3Off ∷ [])) fullRoom
+
+-- the figures: after steps, scans, bookings and cancellations
+unfoldable pub wrongFigures : List Row3
+wrongFigures =
+    row figuresStayInSteps claim.watts (ending (booked then step generator2Off fullRoom))
+    ∷ row figuresStayInScans claim.watts (ending (booked then scan (scanOf (generator2Off ∷ [])) fullRoom))
+    ∷ row figuresStayInScans claim.dark-watts (ending (booked then allOffAtOnce))
+    ∷ row figuresStayInBookings claim.watts (ending booked)
+    ∷ row figuresStayInBookings claim.sums (ending booked)
+    ∷ row countsCancelled claim.watts (ending cancelled)
+    ∷ row countsCancelled claim.sums (ending cancelled)
+    ∷ row (scanServing (withLoad darkLeftOut)) claim.dark-watts (ending (booked then allOffAtOnce))
+    ∷ row (scanServing (withLoad darkLeftOut)) claim.sums (ending (booked then allOffAtOnce))
+    ∷ row (bookGiving darkLeftOut) claim.dark-watts (ending (nothing then allOffAtOnce also book (booking 7 3 500)))
+    ∷ row (bookGiving byOwnGenerator) claim.watts (ending booked)
+    ∷ row (stepServing (withLoad byOwnGenerator)) claim.watts (ending (booked then step breaker1Closed fullRoom))
+    ∷ row (bookGiving wattAbove) claim.watts-above (ending booked)
+    ∷ row (stepServing (withLoad wattAbove)) claim.watts-above (ending (nothing then step breaker2Open fullRoom))
+    ∷ []
+
+-- the live bookings
+unfoldable pub wrongBookings : List Row3
+wrongBookings =
+    row forgetsBookings claim.bookings (ending booked)
+    ∷ row keepsCancelled claim.bookings (ending cancelled)
+    ∷ row keepsCancelled claim.sums (ending cancelled)
+    ∷ row emptiesPlaces claim.bookings (ending cancelled)
+    ∷ row (startServing (withLoad (holding (booking 7 3 500 ∷ []) 1))) claim.bookings (ending nothing)
+    ∷ row (stepServing (withLoad (λ l. noLoad))) claim.bookings (ending (booked then step breaker2Open fullRoom))
+    ∷ row (scanServing (withLoad (λ l. noLoad))) claim.sums (ending (booked then scan twoFaults fullRoom))
+    ∷ row shedsLoad claim.choices-are (calling booked (step breaker2Open fullRoom))
+    ∷ row (bookSpoilt (λ state b answer. whenBooked (givingState (ofRing idleRing)) answer)) claim.only (calling booked (step breaker2Open fullRoom))
+    ∷ row (bookSpoilt (λ state b answer. whenBooked (givingState (ofRing idleRing)) answer)) claim.standing (ending booked)
+    ∷ row (cancelSpoilt (λ state v answer. whenBooked (givingState (ofRing mendedRing)) answer)) claim.health
+    (ending (nothing then step breaker2Open fullRoom also book (booking 7 3 500) also cancel 7))
+    ∷ []
+
+-- bookings and cancellations that are refused in vain, or not refused, or by another number; what a refused call alters
+unfoldable pub wrongTurns : List Row3
+wrongTurns =
+    row servesBookings claim.booking-always (bookingAfter nothing (book (booking 7 0 500)))
+    ∷ row servesBookings claim.booking-always (bookingAfter nothing (book (booking 7 4 500)))
+    ∷ row servesBookings claim.booking-always (bookingAfter nothing (book (booking 7 3 0)))
+    ∷ row servesBookings claim.booking-always (bookingAfter nothing (book (booking 7 3 100001)))
+    ∷ row servesBookings claim.booking-always (bookingAfter booked (book (booking 7 1 300)))
+    ∷ row servesCancellations claim.booking-always (bookingAfter booked (cancel 9))
+    ∷ row servesCancellations claim.booking-always (bookingAfter cancelled (cancel 7))
+    ∷ row (refusesFirst 12 (λ state b. wattsOutside (b .watts))) claim.booking-always (bookingAfter nothing (book (booking 7 4 0)))
+    ∷ row (refusesFirst 12 (λ state b. wattsOutside (b .watts))) claim.booking-only (bookingAfter nothing (book (booking 7 4 0)))
+    ∷ row (refusesFirst 13 (λ state b. isLive (liveBookings (state .load)) (b .number))) claim.booking-always (bookingAfter booked (book (booking 7 3 0)))
+    ∷ row (refusesFirst 10 (λ state b. eqb (b .bus) (state .ring .n))) claim.booking-only (bookingAfter nothing (book (booking 7 3 500)))
+    ∷ row (refusesFirst 12 (λ state b. eqb (b .watts) 1)) claim.booking-only (bookingAfter nothing (book (booking 7 3 1)))
+    ∷ row (refusesFirst 12 (λ state b. eqb (b .watts) 100000)) claim.booking-only (bookingAfter nothing (book (booking 7 3 100000)))
+    ∷ row asksEveryPlace claim.booking-only (bookingAfter booked (book (booking 0 1 300)))
+    ∷ row refusesCancellations claim.booking-only (bookingAfter booked (cancel 7))
+    ∷ row emptiesPlaces claim.booking-only (bookingAfter cancelled (book (booking 9 1 300)))
+    ∷ row (bookRefusing (λ l. withBooking l (booking 7 4 500))) claim.booking-record-kept (bookingAfter nothing (book (booking 7 4 500)))
+    ∷ row (bookRefusing byOwnGenerator) claim.booking-record-kept (bookingAfter booked (book (booking 7 3 500)))
+    ∷ row (cancelRefusing (λ l. noLoad)) claim.booking-record-kept (bookingAfter booked (cancel 9))
+    ∷ row (startRefusing (withLoad (λ l. withBooking l (booking 7 3 500)))) claim.start-record-kept (starting 2 fullRoom)
+    ∷ row (stepRefusing (withLoad (λ l. noLoad))) claim.record-kept (calling booked (step generator4Off fullRoom))
+    ∷ row (scanRefusing (withLoad (λ l. noLoad))) claim.record-kept (calling booked (scan (scanOf (generator4Off ∷ [])) fullRoom))
+    ∷ []
+
+-- k bookings of a watt on B1, with the numbers below k
+unfoldable pub filled : ℕ → Calls
+filled zero = nothing
+filled (suc k) = filled k also book (booking k 1 1)
+
+-- the 64th booking and the 65th, and the first after a cancellation
+unfoldable pub wrongPlaces : List Row3
+wrongPlaces =
+    row servesBookings claim.booking-always (bookingAfter (filled 64) (book (booking 64 1 1)))
+    ∷ row (refusesFirst 14 (λ state b. eqb (state .load .live) 63)) claim.booking-only (bookingAfter (filled 63) (book (booking 63 1 1)))
+    ∷ row (refusesFirst 14 (λ state b. noPlace (state .load))) claim.booking-always (bookingAfter (filled 64) (book (booking 7 1 1)))
+    ∷ row placesServeOnce claim.booking-only (bookingAfter (filled 64 also cancel 7) (book (booking 64 1 1)))
+    ∷ []
+
+-- those that are wrong about switching, and those that are wrong about bookings
+unfoldable pub wrongAboutSwitching : List Row3
+wrongAboutSwitching =
     wrongDesigns
     ++ (wrongStarts ++ (wrongRefusals ++ (wrongSteps ++ (wrongMoments ++ (wrongScanRefusals ++ (wrongScans ++ (wrongReturns ++ wrongOrders)))))))
+
+unfoldable pub wrongAboutBookings : List Row3
+wrongAboutBookings = wrongFigures ++ (wrongBookings ++ (wrongTurns ++ wrongPlaces))
+
+-- all of them
+unfoldable pub wrongs3 : List Row3
+wrongs3 = wrongAboutSwitching ++ wrongAboutBookings
 
 -- the wrong controller fails the claim
 unfoldable pub refuted3 : Row3 → Bool
@@ -750,7 +1035,7 @@ quietWhileOff k = not (fails3 leavesOrders (after [] generator1Off) k)
 
 -- every computed fact about these controllers
 record Computed : Type 0 where
-  refuted-3 : allOf refuted3 wrongs3 ≡ true
+  refuted-3 : allOf refuted3 wrongAboutSwitching ≡ true
   refuted-2 : allOf refuted2 wrongs2 ≡ true
   -- the order of the operations is what is wrong with the fourth and fifth controller of `wrongMoments`: in the sheet's own order
   -- they clash nowhere
@@ -774,23 +1059,25 @@ unfolding below keep first anyOf allOf partCode samePart parts healthOfKind next
     sources pathBusBreakers pathBreakers pathParts highRises pathsFrom paths onPaths usable countedClosed isolated permitted choose
     addPath chosen plan commands choiceOf choices opening firstOccurrences partsOf sequence closing sheetOf sheet written partNamed reported places healthOf commandsOf
     healthPlaces commandPlaces blankRing told planned withPlan firstMet sizeOutside notOfRing wordOfOtherKind tooShort
-    healthOutside activeAbove unplanned badRecord nextSheet reportConditions startRefusal stepRefusal allDark refusedAnswer refusedReply
-    servedAnswer servedReply startReply stepReply afterWord afterWords perform performAll commandNamed withOperation operations phasesAt
+    healthOutside activeAbove unplanned badRing nextSheet reportConditions startRefusal stepRefusal allDark refusedState
+    servedState stateStart stateStep afterWord afterWords perform performAll commandNamed withOperation operations phasesAt
     decode excepted wordRefusal earlier ordered bothPhases worldAfter afterCall run sum digest ringSum choiceNumber choicesSum
     operationNumber operationsDigest isDark feedNumber isClash onWorld onPhases due refusedInVain notRefused recordChanged bufferChanged
     choicesLit behindChanged lengthChanged darkThoughReached litThoughUnreached litByAnother darkThoughFed otherHealth otherCommand
     unfitAbove onAbove anyClash otherChoice newCommands otherFirst otherSecond clashInFirst clashInSecond startOf firstReply startDue
-    atCall atServed atPhases atStart atEnd fails3 designCommands designSheet designChoices designServed designBad designStart designStep
+    atCall atServed atPhases atStart atEnd atLast atEither fails3 designCommands designSheet designChoices designServed designBad designStart designStep
     designController right chosenBy trying planningFor writing allBusesDark givesUp emptyPhases repeatsStart onePlan miscounts
     closingsFirst oneWave wavesExchanged stuckClosedOpen breakerBehind highFirst startSpoilt stepSpoilt whenRefused whenServed withRing
     withChoices withBuffer fullRoom callsOf starting handed halted reversed sheetWith startRefusing startServing stepRefusing stepServing
     startWrites stepWrites refusesTwenty refusesStarts refusesReports servesStarts servesReports fitChoices noChoices wrongDesigns
-    wrongStarts wrongRefusals wrongSteps wrongMoments wrongs3 refuted3 flatMap fails2 extraOpen extraClose hasOperation otherOutcome rises
-    wrongs2 refuted2 clashesNowhere countAbove sheetRefusal toldAll firstRefusal scanRefusal scanReply callNumber designScan scanSpoilt
+    wrongStarts wrongRefusals wrongSteps wrongMoments refuted3 flatMap fails2 extraOpen extraClose hasOperation otherOutcome rises
+    wrongs2 refuted2 clashesNowhere countAbove sheetRefusal toldAll firstRefusal scanRefusal stateScan callNumber designScan scanSpoilt
     scanOf countedAs calling scanning scanRefusing scanServing scanWrites scanTelling scanServingBy lastOf backwards beforeLast
     takesLastWord sendsLastSheet takesWordsBackwards readsPastCount servesScans refuses64 refusesByLast asksFirstStep wrongScanRefusals
     wrongScans goodFront servesBeforeBad returnOf refusesReturns refusesReturnsInScans keepsOff keepsOffInScans passesReturned leavesOrders
     wrongReturns quietWhileOff partsBy rightOrder walking ordering closesByCode closesInward listsTwice listsStanding busesBackwards wrongOrders
+    unloaded toldState reckoned badRecord stateRefusal noLoad totalWatts wattsOf withFigures liveTwice bookingOutside otherFigures badLoad
+    stateSum bookingsDigest loadDigest designReckoned ofRing withState wrongAboutSwitching
 computed = record {
   refuted-3 = refl;
   refuted-2 = refl;
@@ -810,6 +1097,27 @@ computed = record {
   );
 }
 
+-- .. and about those that are wrong about bookings, by another
+computed-bookings : allOf refuted3 wrongAboutBookings ≡ true
+unfolding below keep first anyOf allOf partCode samePart parts healthOfKind next up arc connected feeds feeders feedBy busFeed others
+    sources pathBusBreakers pathBreakers pathParts highRises pathsFrom paths onPaths usable countedClosed isolated permitted choose
+    addPath chosen plan commands choiceOf choices opening firstOccurrences partsOf sequence closing sheetOf sheet written partNamed reported
+    places healthOf commandsOf healthPlaces commandPlaces blankRing told planned withPlan firstMet sizeOutside notOfRing wordOfOtherKind tooShort
+    healthOutside activeAbove unplanned badRing nextSheet reportConditions startRefusal stepRefusal allDark refusedState servedState stateStart
+    stateStep afterWord afterWords perform performAll commandNamed withOperation operations phasesAt decode wordRefusal ordered bothPhases
+    worldAfter afterCall run sum digest ringSum choiceNumber choicesSum onWorld due refusedInVain notRefused recordChanged otherChoice
+    startOf startDue atCall atServed fails3 startSpoilt stepSpoilt whenRefused whenServed withChoices fullRoom starting stepRefusing
+    stepServing startRefusing startServing refuted3 flatMap countAbove sheetRefusal toldAll firstRefusal scanRefusal stateScan callNumber
+    scanSpoilt scanOf calling scanRefusing scanServing unloaded toldState reckoned badRecord stateRefusal bookRefusal cancelRefusal
+    bookAnswer cancelAnswer noLoad totalWatts wattsOf withFigures withBooking withoutBooking wattsOutside isLive noPlace liveTwice
+    bookingOutside otherFigures badLoad busOutside noted afterBooking bookingNumber bookingsDigest loadDigest stateSum otherLive otherWatts
+    wattsAbove otherDarkWatts otherSum atEnd atLast atEither otherHealth otherCommand atBooking bookingsSpoilt whenNotBooked whenBooked ofRing ofLoad withState withLoad givingState
+    bookingAfter ending bookSpoilt cancelSpoilt bookGiving cancelGiving figuresStayInSteps figuresStayInScans figuresStayInBookings
+    countsCancelled keepsCancelled emptiesPlaces forgetsBookings placesServeOnce asksEveryPlace servesBookings servesCancellations
+    refusesFirst refusesCancellations bookRefusing cancelRefusing shedsLoad wrongFigures wrongBookings wrongTurns filled wrongPlaces
+    wrongAboutBookings
+computed-bookings = refl
+
 -- ---- no wrong controller meets a demand
 
 -- a test that cannot pass
@@ -819,8 +1127,12 @@ none-true false f = refl
 
 -- none of the wrong controllers meets demand 3
 pub none-meets-3 : (k : Row3) → k ∈ wrongs3 → Demand3 (k .wrong) → ⊥
-unfolding refuted3
-none-meets-3 k m d = refutes3 (k .wrong) (k .shows) d (k .claim) (all-at refuted3 wrongs3 (computed .refuted-3) k m)
+unfolding refuted3 wrongs3
+none-meets-3 k m d = refutes3 (k .wrong) (k .shows) d (k .claim) (go (List·Memᴰ·append-cases wrongAboutSwitching m))
+  where
+    go : (k ∈ wrongAboutSwitching) ⊎ (k ∈ wrongAboutBookings) → refuted3 k ≡ true
+    go (inl i) = all-at refuted3 wrongAboutSwitching (computed .refuted-3) k i
+    go (inr i) = all-at refuted3 wrongAboutBookings computed-bookings k i
 
 -- the right design fails no claim anywhere
 pub right-fails-none-3 : (i : Instance) (k : Claim3) → fails3 (designController right) i k ≡ false
@@ -828,7 +1140,7 @@ right-fails-none-3 i k = rw right-is (none-true (fails3 controller i k) (refutes
 
 -- nor one that is wrong at the largest ring alone, or above it
 none-meets-20 : Demand3 refusesTwenty → ⊥
-unfolding refusesTwenty startSpoilt refusedReply refusedAnswer
+unfolding refusesTwenty startSpoilt refusedState
 none-meets-20 d = five (d .start-answered 20 fullRoom .only 5 refl)
   where
     five : {n k : ℕ} → StartMeets n k 5 → ⊥
@@ -840,7 +1152,7 @@ none-meets-20 d = five (d .start-answered 20 fullRoom .only 5 refl)
         go (too-short b s l) e = omega arith
 
 none-meets-21 : Demand3 servesStarts → ⊥
-unfolding servesStarts startSpoilt servedReply servedAnswer
+unfolding servesStarts startSpoilt servedState
 none-meets-21 d = served-refused refl (d .start-answered 21 fullRoom .always 2 (too-large (omega arith)))
 
 -- none of the wrong controllers meets demand 2

@@ -1,7 +1,8 @@
 -- Wrong controllers: designs that choose, command, order or write otherwise than documents 01 and 02, and the right controller spoilt in one reply.
 -- A design refuses as the controller does, by its own commands and sheets; the right design is the controller.
 use mathlib.Core.Path.{_≡_, refl, ap}
-use mathlib.Core.Bool.{Bool, not, _&&_, cond, Bool·beq}
+use mathlib.Core.Bool.{Bool, true, false, not, _&&_, _||_, cond, Bool·beq}
+use mathlib.Core.Logic.{_⊎_, inl, inr}
 use mathlib.Core.List.{List, [], _∷_, _++_, map, flatMap, reverse}
 use mathlib.Core.Option.{Option, none, some}
 use Prim.Native.Nat.{ℕ, zero, suc, _+_}
@@ -12,17 +13,21 @@ use Rattle.model.specs.declared.Part.the-variants.{Generator}
 use Rattle.model.specs.declared.Word.the-variants.{StuckOff}
 use Rattle.model.specs.declared.Report.{Report}
 use Rattle.model.specs.declared.Scan.{Scan}
+use Rattle.model.specs.declared.Booking.{Booking}
+use Rattle.model.specs.declared.Load.{Load}
 use Rattle.model.specs.declared.Ring.{Ring}
+use Rattle.model.specs.declared.RingState.{RingState}
 use Rattle.model.specs.declared.Outcome.the-variants as outcome
 use Rattle.model.specs.declared.Choice.the-variants as choice
 use Rattle.model.specs.declared.BusChoice.{BusChoice}
+use Rattle.model.specs.declared.BookingAnswer.{BookingAnswer}
 use Rattle.model.specs.Lists.{below, keep, first, anyOf}
 use Rattle.model.specs.Values.{samePart, partCode}
 use Rattle.model.specs.Plant.{PartHealth, PartCommands, largest, generator, generatorBreaker, busBreaker, parts, stuckClosed}
 use Rattle.model.specs.Priority.{Path, sources, pathBusBreakers, pathParts, highPath, lowPath, paths}
 use Rattle.model.specs.Choosing.{onPaths, permitted, addPath, plan, commands, choiceOf, choices}
 use Rattle.model.specs.Sheet.{opening, firstOccurrences, partsOf, sequence, closing, sheetOf, sheet, written}
-use Rattle.model.specs.Reports.{reported, allFit, places, healthOf, commandsOf, commandPlaces, blankRing, told, planned, withPlan}
+use Rattle.model.specs.Reports.{reported, allFit, places, healthOf, commandsOf, commandPlaces, blankRing, planned, calledFor, withPlan}
 use Rattle.model.specs.Refusals.{
   firstMet,
   orElse,
@@ -30,7 +35,8 @@ use Rattle.model.specs.Refusals.{
   healthOutside,
   activeAbove,
   unplanned,
-  badRecord,
+  badRing,
+  busOutside,
   countAbove,
   tooShort,
   nextSheet,
@@ -39,10 +45,30 @@ use Rattle.model.specs.Refusals.{
   startRefusal,
   stepRefusal,
 }
-use Rattle.model.specs.Answers.{Reply, refusedReply, servedAnswer, servedReply, startReply, stepReply}
-use Rattle.model.specs.Scans.{scanReports, toldAll, firstRefusal, scanRefusal, scanReply}
+use Rattle.model.specs.Scans.{scanReports, toldAll, firstRefusal, scanRefusal}
+use Rattle.model.specs.Bookings.{liveBookings, withFigures, withBooking, withoutBooking, wattsOutside, isLive, noPlace, badLoad}
+use Rattle.model.specs.States.{
+  unloaded,
+  toldState,
+  reckoned,
+  badRecord,
+  stateRefusal,
+  StateReply,
+  servedState,
+  servedBy,
+  refusedBy,
+  stateStart,
+  stateStep,
+  stateScan,
+  bookRefusal,
+  cancelRefusal,
+  bookingBy,
+  bookAnswer,
+  cancelAnswer,
+}
+use Rattle.model.specs.Laws.Tests.{dec}
 use Rattle.model.specs.Laws.Lists.{flat-ext}
-use Rattle.demands.specs.Statements.Demand3.{Controller, isServed}
+use Rattle.demands.specs.Statements.Demand3.{Controller, isServed, isBooked}
 use Rattle.demands.specs.Controller.{controller}
 use Rattle.demands.specs.Statements.Demand2.{earlier}
 use Rattle.demands.specs.Theorems.Demand2.{earlier-chosen}
@@ -83,20 +109,27 @@ module _ (d : Design) where
       let path = d .paths-of (ring .n) (healthOf (ring .health)) in
       places (λ b. record { choice = cond (ltb b (ring .n)) (choiceOf (ring .n) (path b)) choice.Dark })
 
-  unfoldable pub designServed : Ring → List ℕ → Reply
-  designServed ring buffer =
+  -- a load on a ring, its figures by the design's own choices
+  unfoldable pub designReckoned : Ring → Load → RingState
+  designReckoned ring load = record { ring = ring; load = withFigures (designChoices ring) load }
+
+  -- what it gives where a call with orders is served
+  unfoldable pub designServed : RingState → List ℕ → StateReply
+  designServed state buffer =
+      let ring = state .ring in
       record {
         answer = record {
           outcome = outcome.Served;
-          ring = record { n = ring .n; health = ring .health; commands = commandPlaces (designCommands ring) };
+          state = designReckoned (record { n = ring .n; health = ring .health; commands = commandPlaces (designCommands ring) }) (state .load);
           choices = designChoices ring;
         };
         buffer = written (designSheet ring) buffer;
       }
 
-  -- 9, by the design's own commands
-  unfoldable pub designBad : Ring → Bool
-  designBad ring =
+  -- 9, by the design's own commands and choices
+  unfoldable pub designBad : RingState → Bool
+  designBad state =
+      let ring = state .ring in
       let H = healthOf (ring .health) in
       let C = commandsOf (ring .commands) in
       anyOf (λ met. met)
@@ -105,28 +138,56 @@ module _ (d : Design) where
       ∷ activeAbove (ring .n) H C
       ∷ anyOf (λ p. not (Bool·beq (C p) (designCommands ring p))) (parts largest)
       ∷ [])
+      || badLoad (ring .n) (designChoices ring) (state .load)
 
-  unfoldable pub designStart : ℕ → List ℕ → Reply
+  unfoldable pub designStart : ℕ → List ℕ → StateReply
   designStart n buffer =
       let k = firstMet ((2, sizeOutside n) ∷ (8, tooShort (length buffer) (designSheet (blankRing n))) ∷ []) in
-      cond (eqb k 0) (designServed (blankRing n) buffer) (refusedReply k (blankRing 0) buffer)
+      cond (eqb k 0) (designServed (unloaded (blankRing n)) buffer) (refusedBy k (unloaded (blankRing 0)) buffer)
 
-  unfoldable pub designStep : Ring → Report → List ℕ → Reply
-  designStep ring r buffer =
-      let short = tooShort (length buffer) (designSheet (told ring r)) in
-      let k = firstMet ((9, designBad ring) ∷ (reportConditions (ring .n) r ++ ((8, short) ∷ []))) in
-      cond (eqb k 0) (designServed (told ring r) buffer) (refusedReply k ring buffer)
+  unfoldable pub designStep : RingState → Report → List ℕ → StateReply
+  designStep state r buffer =
+      let next = toldState state (r ∷ []) in
+      let short = tooShort (length buffer) (designSheet (next .ring)) in
+      let k = firstMet ((9, designBad state) ∷ (reportConditions (state .ring .n) r ++ ((8, short) ∷ []))) in
+      cond (eqb k 0) (designServed next buffer) (refusedBy k state buffer)
 
-  unfoldable pub designScan : Ring → Scan → List ℕ → Reply
-  designScan ring s buffer =
-      let all-told = toldAll ring (scanReports s) in
-      let reports = firstRefusal (ring .n) (scanReports s) in
-      let own = sheetRefusal (length buffer) (designSheet all-told) in
-      let k = orElse (firstMet ((9, designBad ring) ∷ (11, countAbove (s .count)) ∷ [])) (orElse reports own) in
-      cond (eqb k 0) (designServed all-told buffer) (refusedReply k ring buffer)
+  unfoldable pub designScan : RingState → Scan → List ℕ → StateReply
+  designScan state s buffer =
+      let all-told = toldState state (scanReports s) in
+      let reports = firstRefusal (state .ring .n) (scanReports s) in
+      let own = sheetRefusal (length buffer) (designSheet (all-told .ring)) in
+      let k = orElse (firstMet ((9, designBad state) ∷ (11, countAbove (s .count)) ∷ [])) (orElse reports own) in
+      cond (eqb k 0) (designServed all-told buffer) (refusedBy k state buffer)
+
+  -- a booking or a cancellation of refusal k, and the load that it leads to where it is served
+  unfoldable pub designBooking : ℕ → RingState → Load → BookingAnswer
+  designBooking k state load =
+      cond (eqb k 0) (record { outcome = outcome.Served; state = designReckoned (state .ring) load })
+      (record { outcome = outcome.Refused k; state = state })
+
+  -- its refusals in their order, 9 by the design
+  unfoldable pub designBook : RingState → Booking → BookingAnswer
+  designBook state b =
+      let live = liveBookings (state .load) in
+      let k =
+      firstMet
+      ((9, designBad state)
+      ∷ (10, busOutside (state .ring .n) (b .bus))
+      ∷ (12, wattsOutside (b .watts))
+      ∷ (13, isLive live (b .number))
+      ∷ (14, noPlace (state .load))
+      ∷ []) in
+      designBooking k state (withBooking (state .load) b)
+
+  unfoldable pub designCancel : RingState → ℕ → BookingAnswer
+  designCancel state v =
+      let k = firstMet ((9, designBad state) ∷ (13, not (isLive (liveBookings (state .load)) v)) ∷ []) in
+      designBooking k state (withoutBooking (state .load) v)
 
   unfoldable pub designController : Controller
-  designController = record { start = designStart; step = designStep; scan = designScan }
+  designController =
+      record { start = designStart; step = designStep; scan = designScan; book = designBook; cancel = designCancel }
 
 -- "a part only where it first comes", of those that do not stand commanded, bus by bus
 unfoldable pub rightOrder : ℕ → PartCommands → (ℕ → List Part) → List Part
@@ -153,33 +214,80 @@ right-sheet ring =
     (ap (λ ps. sheetOf (opening (ring .n) (commandsOf (ring .commands)) (planned ring)) (keep (λ p. not (commandsOf (ring .commands) p)) (firstOccurrences ps)))
     (flat-ext _ _ (below (ring .n)) (λ b m. right-parts (ring .n) (plan (ring .n) H b))))
 
-right-served : (ring : Ring) (buffer : List ℕ) → designServed right ring buffer ≡ servedReply ring buffer
-unfolding designServed designChoices right servedReply servedAnswer withPlan choices places
-right-served ring buffer = rw (right-commands ring, right-sheet ring)
+-- its choices, and the figures by them
+right-choices : (ring : Ring) → designChoices right ring ≡ calledFor ring
+unfolding designChoices right choices places
+right-choices ring = refl
 
-right-bad : (ring : Ring) → designBad right ring ≡ badRecord ring
-unfolding designBad badRecord unplanned planned
-right-bad ring = rw (right-commands ring)
+right-reckoned : (ring : Ring) (load : Load) → designReckoned right ring load ≡ reckoned ring load
+unfolding designReckoned reckoned
+right-reckoned ring load = ap figured (right-choices ring)
+  where
+    figured : List BusChoice → RingState
+    figured cs = record { ring = ring; load = withFigures cs load }
 
-right-start : (n : ℕ) (buffer : List ℕ) → designStart right n buffer ≡ startReply n buffer
-unfolding designStart startReply startRefusal
-right-start n buffer = rw (right-sheet (blankRing n), right-served (blankRing n) buffer)
+right-served : (state : RingState) (buffer : List ℕ) → designServed right state buffer ≡ servedBy state buffer
+unfolding designServed servedState withPlan
+right-served state buffer =
+    rw (right-commands (state .ring), right-sheet (state .ring), right-choices (state .ring), right-reckoned (withPlan (state .ring)) (state .load))
 
-right-step : (ring : Ring) (r : Report) (buffer : List ℕ) → designStep right ring r buffer ≡ stepReply ring r buffer
-unfolding designStep stepReply stepRefusal
-right-step ring r buffer = rw (right-bad ring, right-sheet (told ring r), right-served (told ring r) buffer)
+right-bad : (state : RingState) → designBad right state ≡ badRecord state
+unfolding designBad badRecord badRing unplanned planned
+right-bad state = rw (right-commands (state .ring), right-choices (state .ring))
 
-right-scan : (ring : Ring) (s : Scan) (buffer : List ℕ) → designScan right ring s buffer ≡ scanReply ring s buffer
-unfolding designScan scanReply scanRefusal
-right-scan ring s buffer = rw (right-bad, right-sheet, right-served)
+-- 9 is met by the record and then by its ring: the design asks once
+nine : (state : RingState) (k : ℕ) → cond (designBad right state) 9 k ≡ stateRefusal state (cond (badRing (state .ring)) 9 k)
+unfolding stateRefusal badRecord firstMet
+nine state k = rw (right-bad state) (go (badRing (state .ring)) (badLoad (state .ring .n) (calledFor (state .ring)) (state .load)))
+  where
+    go : (a b : Bool) → cond (a || b) 9 k ≡ orElse (cond (a || b) 9 0) (cond a 9 k)
+    go true b = refl
+    go false true = refl
+    go false false = refl
+
+right-start : (n : ℕ) (buffer : List ℕ) → designStart right n buffer ≡ stateStart n buffer
+unfolding designStart stateStart startRefusal unloaded
+right-start n buffer = rw (right-sheet (blankRing n), right-served (unloaded (blankRing n)) buffer)
+
+right-step : (state : RingState) (r : Report) (buffer : List ℕ) → designStep right state r buffer ≡ stateStep state r buffer
+unfolding designStep stateStep stepRefusal firstMet toldState toldAll
+right-step state r buffer = rw (right-sheet, nine state _, right-served)
+
+-- the first of three refusals
+first-of : (j k l : ℕ) → orElse (orElse j k) l ≡ orElse j (orElse k l)
+first-of j k l = go (dec (eqb j 0))
+  where
+    go : (eqb j 0 ≡ true) ⊎ (eqb j 0 ≡ false) → orElse (orElse j k) l ≡ orElse j (orElse k l)
+    go (inl e) = rw e
+    go (inr e) = rw (e, e)
+
+right-scan : (state : RingState) (s : Scan) (buffer : List ℕ) → designScan right state s buffer ≡ stateScan state s buffer
+unfolding designScan stateScan scanRefusal stateRefusal firstMet toldState
+right-scan state s buffer = rw (right-sheet, nine state _, first-of (cond (badRecord state) 9 0) _ _, right-served)
+
+-- .. and its answers to bookings and cancellations
+right-booking : (k : ℕ) (state : RingState) (load : Load) → designBooking right k state load ≡ bookingBy k state load
+unfolding designBooking
+right-booking k state load = rw (right-reckoned (state .ring) load)
+
+right-book : (state : RingState) (b : Booking) → designBook right state b ≡ bookAnswer state b
+unfolding designBook bookAnswer bookRefusal
+right-book state b =
+    rw (right-bad state) (right-booking (bookRefusal state b) state (withBooking (state .load) b))
+
+right-cancel : (state : RingState) (v : ℕ) → designCancel right state v ≡ cancelAnswer state v
+unfolding designCancel cancelAnswer cancelRefusal
+right-cancel state v = rw (right-bad state) (right-booking (cancelRefusal state v) state (withoutBooking (state .load) v))
 
 -- the right design is the controller
 pub right-is : designController right ≡ controller
 unfolding designController
 right-is = λ i. record {
   start = λ n buffer. right-start n buffer i;
-  step = λ ring r buffer. right-step ring r buffer i;
-  scan = λ ring s buffer. right-scan ring s buffer i;
+  step = λ state r buffer. right-step state r buffer i;
+  scan = λ state s buffer. right-scan state s buffer i;
+  book = λ state b. right-book state b i;
+  cancel = λ state v. right-cancel state v i;
 }
 
 -- ---- the designs that document 01 holds against the contracts
@@ -287,36 +395,90 @@ listsStanding = ordering (λ n old each. firstOccurrences (flatMap each (below n
 unfoldable pub busesBackwards : Design
 busesBackwards = ordering (λ n old each. keep (λ p. not (old p)) (firstOccurrences (flatMap each (reverse (below n)))))
 
--- ---- the controller, spoilt in its replies to starts, to steps or to scans
+-- ---- the controller, spoilt in what it gives at starts, steps, scans, bookings or cancellations
 
-unfoldable pub startSpoilt : (ℕ → List ℕ → Reply → Reply) → Controller
-startSpoilt f = record { start = λ n buffer. f n buffer (startReply n buffer); step = stepReply; scan = scanReply }
+unfoldable pub startSpoilt : (ℕ → List ℕ → StateReply → StateReply) → Controller
+startSpoilt f =
+    record {
+      start = λ n buffer. f n buffer (stateStart n buffer);
+      step = stateStep;
+      scan = stateScan;
+      book = bookAnswer;
+      cancel = cancelAnswer;
+    }
 
-unfoldable pub stepSpoilt : (Ring → Report → List ℕ → Reply → Reply) → Controller
+unfoldable pub stepSpoilt : (RingState → Report → List ℕ → StateReply → StateReply) → Controller
 stepSpoilt f =
-    record { start = startReply; step = λ ring r buffer. f ring r buffer (stepReply ring r buffer); scan = scanReply }
+    record {
+      start = stateStart;
+      step = λ state r buffer. f state r buffer (stateStep state r buffer);
+      scan = stateScan;
+      book = bookAnswer;
+      cancel = cancelAnswer;
+    }
 
-unfoldable pub scanSpoilt : (Ring → Scan → List ℕ → Reply → Reply) → Controller
+unfoldable pub scanSpoilt : (RingState → Scan → List ℕ → StateReply → StateReply) → Controller
 scanSpoilt f =
-    record { start = startReply; step = stepReply; scan = λ ring s buffer. f ring s buffer (scanReply ring s buffer) }
+    record {
+      start = stateStart;
+      step = stateStep;
+      scan = λ state s buffer. f state s buffer (stateScan state s buffer);
+      book = bookAnswer;
+      cancel = cancelAnswer;
+    }
+
+-- .. in bookings, and in cancellations
+unfoldable pub bookingsSpoilt : (RingState → Booking → BookingAnswer → BookingAnswer) → (RingState → ℕ → BookingAnswer → BookingAnswer) → Controller
+bookingsSpoilt f g =
+    record {
+      start = stateStart;
+      step = stateStep;
+      scan = stateScan;
+      book = λ state b. f state b (bookAnswer state b);
+      cancel = λ state v. g state v (cancelAnswer state v);
+    }
 
 -- a refused reply, or a served one, altered
-unfoldable pub whenRefused : (Reply → Reply) → Reply → Reply
+unfoldable pub whenRefused : (StateReply → StateReply) → StateReply → StateReply
 whenRefused f reply = cond (isServed reply) reply (f reply)
 
-unfoldable pub whenServed : (Reply → Reply) → Reply → Reply
+unfoldable pub whenServed : (StateReply → StateReply) → StateReply → StateReply
 whenServed f reply = cond (isServed reply) (f reply) reply
 
--- a reply with another record, other choices, another buffer
-unfoldable pub withRing : (Ring → Ring) → Reply → Reply
-withRing f reply =
-    let a = reply .answer in
-    record { answer = record { outcome = a .outcome; ring = f (a .ring); choices = a .choices }; buffer = reply .buffer }
+-- .. or answer to a booking or a cancellation
+unfoldable pub whenNotBooked : (BookingAnswer → BookingAnswer) → BookingAnswer → BookingAnswer
+whenNotBooked f answer = cond (isBooked answer) answer (f answer)
 
-unfoldable pub withChoices : List BusChoice → Reply → Reply
+unfoldable pub whenBooked : (BookingAnswer → BookingAnswer) → BookingAnswer → BookingAnswer
+whenBooked f answer = cond (isBooked answer) (f answer) answer
+
+-- a ring state with another ring, another load
+unfoldable pub ofRing : (Ring → Ring) → RingState → RingState
+ofRing f state = record { ring = f (state .ring); load = state .load }
+
+unfoldable pub ofLoad : (Load → Load) → RingState → RingState
+ofLoad f state = record { ring = state .ring; load = f (state .load) }
+
+-- a reply with another record, other choices, another buffer
+unfoldable pub withState : (RingState → RingState) → StateReply → StateReply
+withState f reply =
+    let a = reply .answer in
+    record { answer = record { outcome = a .outcome; state = f (a .state); choices = a .choices }; buffer = reply .buffer }
+
+unfoldable pub withRing : (Ring → Ring) → StateReply → StateReply
+withRing f reply = withState (ofRing f) reply
+
+unfoldable pub withLoad : (Load → Load) → StateReply → StateReply
+withLoad f reply = withState (ofLoad f) reply
+
+unfoldable pub withChoices : List BusChoice → StateReply → StateReply
 withChoices cs reply =
     let a = reply .answer in
-    record { answer = record { outcome = a .outcome; ring = a .ring; choices = cs }; buffer = reply .buffer }
+    record { answer = record { outcome = a .outcome; state = a .state; choices = cs }; buffer = reply .buffer }
 
-unfoldable pub withBuffer : (List ℕ → List ℕ) → Reply → Reply
+unfoldable pub withBuffer : (List ℕ → List ℕ) → StateReply → StateReply
 withBuffer f reply = record { answer = reply .answer; buffer = f (reply .buffer) }
+
+-- an answer to a booking or a cancellation with another record
+unfoldable pub givingState : (RingState → RingState) → BookingAnswer → BookingAnswer
+givingState f answer = record { outcome = answer .outcome; state = f (answer .state) }

@@ -16,6 +16,7 @@ use Rattle.model.specs.declared.Word.{Word}
 use Rattle.model.specs.declared.Word.the-variants.{Fit, StuckOff, StuckOpen, StuckClosed}
 use Rattle.model.specs.declared.Report.{Report}
 use Rattle.model.specs.declared.Ring.{Ring}
+use Rattle.model.specs.declared.RingState.{RingState}
 use Rattle.model.specs.declared.Outcome.the-variants as outcome
 use Rattle.model.specs.Values.{number, wordNumber, outcomeOf}
 use Rattle.model.specs.Plant.{smallest, largest, allOff, InRing}
@@ -29,7 +30,7 @@ use Rattle.model.specs.Refusals.{
   notOfRing,
   wordOfOtherKind,
   tooShort,
-  badRecord,
+  badRing,
   countAbove,
   nextSheet,
   reportConditions,
@@ -37,8 +38,22 @@ use Rattle.model.specs.Refusals.{
   startRefusal,
   stepRefusal,
 }
-use Rattle.model.specs.Answers.{Reply, refusedAnswer, refusedReply, servedAnswer, servedReply, replyBy, startReply, stepReply}
-use Rattle.model.specs.Scans.{toldAll, firstRefusal, scanRefusal, scanReply}
+use Rattle.model.specs.Scans.{toldAll, firstRefusal, scanRefusal}
+use Rattle.model.specs.States.{
+  unloaded,
+  toldState,
+  badRecord,
+  stateRefusal,
+  StateReply,
+  refusedState,
+  servedState,
+  servedBy,
+  refusedBy,
+  stateBy,
+  stateStart,
+  stateStep,
+  stateScan,
+}
 use Rattle.model.specs.Laws.Tests.{contra, dec, dec-eq, dec-lt, or-cases, or-none}
 use Rattle.model.specs.Laws.Refusals.{size-bounds, refused-number}
 use Rattle.model.specs.Laws.Calls.{or-nothing, step-refusal, scan-refusal}
@@ -83,7 +98,7 @@ use Rattle.demands.specs.Statements.Demand3.{
   Answered,
 }
 use Rattle.demands.specs.Controller.{controller}
-use Rattle.demands.specs.Proofs.Steady.{Ready, Steady, sheet-is, steady-good}
+use Rattle.demands.specs.Proofs.Steady.{Ready, Steady, sheet-is}
 
 -- ---- the reply that has a number
 
@@ -102,9 +117,19 @@ judged-fine (met k l m only) z = absurd (omega arith)
 judged-fine (fine none f) z = f
 
 -- a call that no refusal meets has the number 0
-judged-zero : {Met : ℕ → Type 0} {Fine : Type 0} {k : ℕ} → Judged Met Fine k → ((j : ℕ) → Met j → ⊥) → k ≡ 0
+pub judged-zero : {Met : ℕ → Type 0} {Fine : Type 0} {k : ℕ} → Judged Met Fine k → ((j : ℕ) → Met j → ⊥) → k ≡ 0
 judged-zero (met k l m only) none = absurd (none k m)
 judged-zero (fine none f) free = refl
+
+-- a number that is not 0 is that of a refusal that meets the call
+pub judged-met : {Met : ℕ → Type 0} {Fine : Type 0} {j : ℕ} → Judged Met Fine j → (i : ℕ) → j ≡ i → j ≢ 0 → Met i
+judged-met (met j l m only) i z p = rw z at m
+judged-met (fine none f) i z p = absurd (p refl)
+
+-- .. and the outcome of a call that a refusal meets is that refusal
+pub judged-outcome : {Met : ℕ → Type 0} {Fine : Type 0} {j : ℕ} → Judged Met Fine j → (i : ℕ) → Met i → outcomeOf j ≡ outcome.Refused i
+judged-outcome (met j l m only) i k = rw (← only i k) (refused-outcome i (rw (← only i k) at l))
+judged-outcome (fine none f) i k = absurd (none i k)
 
 -- condition 8, met and not
 short-lt : (room : ℕ) (bytes : List ℕ) → tooShort room bytes ≡ true → room < length bytes
@@ -136,12 +161,12 @@ module _ (ring : Ring) (buffer : List ℕ) where
   after-length fits = simp (length-append, length-drop) (omega arith)
 
 -- the reply of refusal k
-module _ (k : ℕ) (ring kept : Ring) (buffer : List ℕ) where
-  abbrev reply : Reply
-  reply = replyBy k ring kept buffer
+module _ (k : ℕ) (state kept : RingState) (buffer : List ℕ) where
+  abbrev reply : StateReply
+  reply = stateBy k state kept buffer
 
   pub reply-outcome : reply .answer .outcome ≡ outcomeOf k
-  unfolding servedReply servedAnswer refusedReply refusedAnswer outcomeOf
+  unfolding servedState refusedState outcomeOf
   reply-outcome = go (dec-eq k 0)
     where
       go : (k ≡ 0) ⊎ (k ≢ 0) → reply .answer .outcome ≡ outcomeOf k
@@ -149,47 +174,39 @@ module _ (k : ℕ) (ring kept : Ring) (buffer : List ℕ) where
       go (inr e) = rw (ne-eqb k 0 e)
 
   pub zero-served : k ≡ 0 → isServed reply ≡ true
-  unfolding servedReply servedAnswer
+  unfolding servedState
   zero-served e = rw e
 
   pub served-zero : isServed reply ≡ true → k ≡ 0
-  unfolding refusedReply refusedAnswer
+  unfolding refusedState
   served-zero e = go (dec-eq k 0)
     where
       go : (k ≡ 0) ⊎ (k ≢ 0) → k ≡ 0
       go (inl z) = z
       go (inr z) = contra (rw (ne-eqb k 0 z) at e) refl
 
-  pub served-is : isServed reply ≡ true → reply ≡ servedReply ring buffer
+  pub served-is : isServed reply ≡ true → reply ≡ servedBy state buffer
   served-is e = rw (served-zero e)
 
-  pub refused-is : isServed reply ≡ false → reply ≡ refusedReply k kept buffer
+  pub refused-is : isServed reply ≡ false → reply ≡ refusedBy k kept buffer
   refused-is e = rw (ne-eqb k 0 (λ z. contra (zero-served z) e))
 
   -- what is claimed of it, where the number is that of the call
-  pub answered-by : {Met : ℕ → Type 0} {Fine : Type 0} → Judged Met Fine k → (Fine → length (nextSheet ring) ≤ length buffer)
+  pub answered-by : {Met : ℕ → Type 0} {Fine : Type 0} → Judged Met Fine k → (Fine → length (nextSheet (state .ring)) ≤ length buffer)
       → Answered Met kept buffer reply
-  unfolding refusedReply refusedAnswer servedReply after
+  unfolding refusedState after
   answered-by {Met} {Fine} judged fits = record {
-    only = λ i e. let t = refused-number reply-outcome i e in forth judged i (t .0) (t .1);
-    always = λ i m. reply-outcome ∙ back judged i m;
+    only = λ i e. let t = refused-number reply-outcome i e in judged-met judged i (t .0) (t .1);
+    always = λ i m. reply-outcome ∙ judged-outcome judged i m;
     record-kept = λ e. rw (refused-is e);
     buffer-kept = λ e. rw (refused-is e);
     choices-dark = λ e. rw (refused-is e);
-    behind-kept = λ e. rw (served-is e) (behind ring buffer);
+    behind-kept = λ e. rw (served-is e) (behind (state .ring) buffer);
     length-kept = sized (dec (isServed reply));
   }
     where
-      forth : {j : ℕ} → Judged Met Fine j → (i : ℕ) → j ≡ i → j ≢ 0 → Met i
-      forth (met j l m only) i z p = rw z at m
-      forth (fine none f) i z p = absurd (p refl)
-
-      back : {j : ℕ} → Judged Met Fine j → (i : ℕ) → Met i → outcomeOf j ≡ outcome.Refused i
-      back (met j l m only) i k = rw (← only i k) (refused-outcome i (rw (← only i k) at l))
-      back (fine none f) i k = absurd (none i k)
-
       sized : (isServed reply ≡ true) ⊎ (isServed reply ≡ false) → length (reply .buffer) ≡ length buffer
-      sized (inl e) = rw (served-is e) (after-length ring buffer (fits (judged-fine judged (served-zero e))))
+      sized (inl e) = rw (served-is e) (after-length (state .ring) buffer (fits (judged-fine judged (served-zero e))))
       sized (inr e) = rw (refused-is e)
 
 -- ---- room
@@ -274,27 +291,27 @@ judge-start n room = go (dec (sizeOutside n)) (dec (tooShort room (nextSheet (bl
         rw (s, t) (fine (none-start f) f)
 
 -- the whole of what is claimed of a start
-pub start-answered : (n : ℕ) (buffer : List ℕ) → Answered (StartMeets n (length buffer)) (blankRing 0) buffer (startReply n buffer)
-unfolding startReply
-start-answered n buffer = answered-by (startRefusal n (length buffer)) (blankRing n) (blankRing 0) buffer (judge-start n (length buffer))
+pub start-answered : (n : ℕ) (buffer : List ℕ) → Answered (StartMeets n (length buffer)) (unloaded (blankRing 0)) buffer (stateStart n buffer)
+unfolding stateStart unloaded
+start-answered n buffer = answered-by (startRefusal n (length buffer)) (unloaded (blankRing n)) (unloaded (blankRing 0)) buffer (judge-start n (length buffer))
     (λ f. omega (arith, f .fits, ap length (sheet-is (f .small) (start-ready n (f .small)))))
 
 -- a fine start is served, a served one fine
-pub fine-begun : (n : ℕ) (buffer : List ℕ) → StartFine n (length buffer) → isServed (startReply n buffer) ≡ true
-unfolding startReply
+pub fine-begun : (n : ℕ) (buffer : List ℕ) → StartFine n (length buffer) → isServed (stateStart n buffer) ≡ true
+unfolding stateStart
 fine-begun n buffer f =
-    zero-served (startRefusal n (length buffer)) (blankRing n) (blankRing 0) buffer
+    zero-served (startRefusal n (length buffer)) (unloaded (blankRing n)) (unloaded (blankRing 0)) buffer
     (judged-zero (judge-start n (length buffer)) (none-start f))
 
-module _ (n : ℕ) (buffer : List ℕ) (begun : isServed (startReply n buffer) ≡ true) where
-  pub start-served : startReply n buffer ≡ servedReply (blankRing n) buffer
-  unfolding startReply
-  start-served = served-is (startRefusal n (length buffer)) (blankRing n) (blankRing 0) buffer begun
+module _ (n : ℕ) (buffer : List ℕ) (begun : isServed (stateStart n buffer) ≡ true) where
+  pub start-served : stateStart n buffer ≡ servedBy (unloaded (blankRing n)) buffer
+  unfolding stateStart
+  start-served = served-is (startRefusal n (length buffer)) (unloaded (blankRing n)) (unloaded (blankRing 0)) buffer begun
 
   pub start-fine : StartFine n (length buffer)
-  unfolding startReply
+  unfolding stateStart
   start-fine =
-      judged-fine (judge-start n (length buffer)) (served-zero (startRefusal n (length buffer)) (blankRing n) (blankRing 0) buffer begun)
+      judged-fine (judge-start n (length buffer)) (served-zero (startRefusal n (length buffer)) (unloaded (blankRing n)) (unloaded (blankRing 0)) buffer begun)
 
 -- ---- a report, in the record and in the plant
 
@@ -315,7 +332,7 @@ told-ready {ring = ring} small ready r = record {
   standing = ready .standing;
 }
 
-all-ready : {n : ℕ} {ring : Ring} {P : PlantState} → n ≤ largest → Ready n ring P → (rs : List Report)
+pub all-ready : {n : ℕ} {ring : Ring} {P : PlantState} → n ≤ largest → Ready n ring P → (rs : List Report)
     → Ready n (toldAll ring rs) (afterWords rs P)
 unfolding toldAll afterWords
 all-ready small ready [] = ready
@@ -323,7 +340,8 @@ all-ready small ready (r ∷ rs) = all-ready small (told-ready small ready r) rs
 
 -- .. all of its reports
 pub call-ready : {n : ℕ} {W : World} → n ≤ largest → Steady n W → (call : Call)
-    → Ready n (toldAll (W .ring) (words call)) (afterWords (words call) (W .plant))
+    → Ready n (toldState (W .state) (words call) .ring) (afterWords (words call) (W .plant))
+unfolding toldState
 call-ready small s call = all-ready small (record { size = s .size; health = s .health; standing = s .standing }) (words call)
 
 in-ring : (n : ℕ) (p : Part) → notOfRing n p ≡ false → InRing n p
@@ -481,64 +499,71 @@ module _ (n : ℕ) (P : PlantState) (call : Call) (bytes : List ℕ) (small : n 
       go (inr l) = rw (le-ltb 64 (count call) l) (reports-then l (judge-reports n (words call) small))
 
 -- the refusal of a call of the controller
-abbrev pub callRefusal : Ring → Call → ℕ
-callRefusal ring (step r buffer) = stepRefusal ring r (length buffer)
-callRefusal ring (scan s buffer) = scanRefusal ring s (length buffer)
+abbrev pub callRefusal : RingState → Call → ℕ
+callRefusal state (step r buffer) = stateRefusal state (stepRefusal (state .ring) r (length buffer))
+callRefusal state (scan s buffer) = stateRefusal state (scanRefusal (state .ring) s (length buffer))
 
--- every call is answered by its refusal, and by the ring that was told its reports
-abbrev pub callReply : Ring → Call → Reply
-callReply ring call = replyBy (callRefusal ring call) (toldAll ring (words call)) ring (lent call)
+-- every call is answered by its refusal, and by the ring state that was told its reports
+abbrev pub callReply : RingState → Call → StateReply
+callReply state call = stateBy (callRefusal state call) (toldState state (words call)) state (lent call)
 
-pub call-reply : (ring : Ring) (call : Call) → replyTo controller ring call ≡ callReply ring call
-unfolding stepReply scanReply toldAll
-call-reply ring (step r buffer) = refl
-call-reply ring (scan s buffer) = refl
+pub call-reply : (state : RingState) (call : Call) → replyTo controller state call ≡ callReply state call
+unfolding stateStep stateScan
+call-reply state (step r buffer) = refl
+call-reply state (scan s buffer) = refl
+
+-- a good record has a good ring
+pub ring-good : (state : RingState) → badRecord state ≡ false → badRing (state .ring) ≡ false
+unfolding badRecord
+ring-good state good = or-none (badRing (state .ring)) _ good .0
 
 -- a good record: 9 does not meet the call
-call-number : (ring : Ring) (call : Call) → badRecord ring ≡ false
-    → callRefusal ring call ≡ callNumber (ring .n) call (nextSheet (toldAll ring (words call)))
-unfolding callNumber firstMet firstRefusal countAbove toldAll
-call-number ring (step r buffer) good = rw (or-nothing (firstMet (reportConditions (ring .n) r))) (step-refusal ring good r (length buffer))
-call-number ring (scan s buffer) good = scan-refusal ring good s (length buffer)
+call-number : (state : RingState) (call : Call) → badRecord state ≡ false
+    → callRefusal state call ≡ callNumber (state .ring .n) call (nextSheet (toldState state (words call) .ring))
+unfolding callNumber firstMet firstRefusal countAbove toldState toldAll stateRefusal
+call-number state (step r buffer) good =
+    rw (good, or-nothing (firstMet (reportConditions (state .ring .n) r)))
+    (step-refusal (state .ring) (ring-good state good) r (length buffer))
+call-number state (scan s buffer) good = rw good (scan-refusal (state .ring) (ring-good state good) s (length buffer))
 
-module _ {n : ℕ} {W : World} (big : smallest ≤ n) (small : n ≤ largest) (s : Steady n W) (call : Call) where
-  abbrev told-ring : Ring
-  told-ring = toldAll (W .ring) (words call)
+module _ {n : ℕ} {W : World} (small : n ≤ largest) (s : Steady n W) (good : badRecord (W .state) ≡ false) (call : Call) where
+  abbrev told-state : RingState
+  told-state = toldState (W .state) (words call)
 
-  sheet-for : length (nextSheet told-ring) ≡ sheetFor n (afterWords (words call) (W .plant))
+  sheet-for : length (nextSheet (told-state .ring)) ≡ sheetFor n (afterWords (words call) (W .plant))
   sheet-for = ap length (sheet-is small (call-ready small s call))
 
-  pub judged-call : Judged (Meets n (W .plant) call) (CallFine n (W .plant) call) (callRefusal (W .ring) call)
+  pub judged-call : Judged (Meets n (W .plant) call) (CallFine n (W .plant) call) (callRefusal (W .state) call)
   judged-call =
-      let size = ap (λ m. callNumber m call (nextSheet told-ring)) (s .size) in
-      rw (call-number (W .ring) call (steady-good s big small) ∙ size) (judge-call n (W .plant) call (nextSheet told-ring) small sheet-for)
+      let size = ap (λ m. callNumber m call (nextSheet (told-state .ring))) (s .size) in
+      rw (call-number (W .state) call good ∙ size) (judge-call n (W .plant) call (nextSheet (told-state .ring)) small sheet-for)
 
   -- the whole of what is claimed of a call
-  pub call-answered : Answered (Meets n (W .plant) call) (W .ring) (lent call) (replyTo controller (W .ring) call)
+  pub call-answered : Answered (Meets n (W .plant) call) (W .state) (lent call) (replyTo controller (W .state) call)
   call-answered =
-      rw (call-reply (W .ring) call)
-      (answered-by (callRefusal (W .ring) call) told-ring (W .ring) (lent call) judged-call (λ f. omega (arith, f .fits, sheet-for)))
+      rw (call-reply (W .state) call)
+      (answered-by (callRefusal (W .state) call) told-state (W .state) (lent call) judged-call (λ f. omega (arith, f .fits, sheet-for)))
 
   -- a fine call is served, a served one fine
-  pub fine-served : CallFine n (W .plant) call → isServed (replyTo controller (W .ring) call) ≡ true
+  pub fine-served : CallFine n (W .plant) call → isServed (replyTo controller (W .state) call) ≡ true
   fine-served f =
-      rw (call-reply (W .ring) call)
-      (zero-served (callRefusal (W .ring) call) told-ring (W .ring) (lent call) (judged-zero judged-call (none-call f)))
+      rw (call-reply (W .state) call)
+      (zero-served (callRefusal (W .state) call) told-state (W .state) (lent call) (judged-zero judged-call (none-call f)))
 
-  pub served-fine : isServed (replyTo controller (W .ring) call) ≡ true → CallFine n (W .plant) call
+  pub served-fine : isServed (replyTo controller (W .state) call) ≡ true → CallFine n (W .plant) call
   served-fine e =
       judged-fine judged-call
-      (served-zero (callRefusal (W .ring) call) told-ring (W .ring) (lent call) (rw (call-reply (W .ring) call) at e))
+      (served-zero (callRefusal (W .state) call) told-state (W .state) (lent call) (rw (call-reply (W .state) call) at e))
 
-module _ (ring : Ring) (call : Call) where
-  pub call-served : isServed (replyTo controller ring call) ≡ true
-      → replyTo controller ring call ≡ servedReply (toldAll ring (words call)) (lent call)
+module _ (state : RingState) (call : Call) where
+  pub call-served : isServed (replyTo controller state call) ≡ true
+      → replyTo controller state call ≡ servedBy (toldState state (words call)) (lent call)
   call-served e =
-      call-reply ring call
-      ∙ served-is (callRefusal ring call) (toldAll ring (words call)) ring (lent call) (rw (call-reply ring call) at e)
+      call-reply state call
+      ∙ served-is (callRefusal state call) (toldState state (words call)) state (lent call) (rw (call-reply state call) at e)
 
-  pub call-refused : isServed (replyTo controller ring call) ≡ false
-      → replyTo controller ring call ≡ refusedReply (callRefusal ring call) ring (lent call)
+  pub call-refused : isServed (replyTo controller state call) ≡ false
+      → replyTo controller state call ≡ refusedBy (callRefusal state call) state (lent call)
   call-refused e =
-      call-reply ring call
-      ∙ refused-is (callRefusal ring call) (toldAll ring (words call)) ring (lent call) (rw (call-reply ring call) at e)
+      call-reply state call
+      ∙ refused-is (callRefusal state call) (toldState state (words call)) state (lent call) (rw (call-reply state call) at e)

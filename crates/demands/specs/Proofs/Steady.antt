@@ -1,5 +1,5 @@
 -- What a transition of the ring does: its choices and phases are document 01's, its operations bring the new commands about,
--- and the record that it gives meets no condition of refusal 9.
+-- and the ring that it gives meets none of document 01's conditions of refusal 9.
 use mathlib.Core.Path.{_≡_, refl, sym, _∙_, ap}
 use mathlib.Core.Bool.{Bool, true, false, not, _&&_, _||_, Bool·beq}
 use mathlib.Core.Logic.{_⊎_, inl, inr}
@@ -12,14 +12,15 @@ use borrow.Author.Tests.{le-ltb, lt-ltb}
 use Rattle.model.specs.declared.Part.{Part}
 use Rattle.model.specs.declared.Part.the-variants.{Generator, GeneratorBreaker, BusBreaker}
 use Rattle.model.specs.declared.Ring.{Ring}
+use Rattle.model.specs.declared.RingState.{RingState}
 use Rattle.model.specs.Lists.{anyOf, _∈_}
 use Rattle.model.specs.Values.{number}
 use Rattle.model.specs.Plant.{PartHealth, PartCommands, smallest, largest, parts, fit, healthOfKind, InRing}
 use Rattle.model.specs.Choosing.{plan, commands, choices}
-use Rattle.model.specs.Sheet.{opening, closing, sheet}
-use Rattle.model.specs.Reports.{healthOf, commandsOf, planned, withPlan}
-use Rattle.model.specs.Refusals.{sizeOutside, healthOutside, activeAbove, unplanned, badRecord, nextSheet}
-use Rattle.model.specs.Answers.{Reply, servedAnswer, servedReply}
+use Rattle.model.specs.Sheet.{opening, closing, sheet, written}
+use Rattle.model.specs.Reports.{healthOf, commandsOf, planned, calledFor, withPlan}
+use Rattle.model.specs.Refusals.{sizeOutside, healthOutside, activeAbove, unplanned, badRing, nextSheet}
+use Rattle.model.specs.States.{StateReply, reckoned, servedState, servedBy}
 use Rattle.model.specs.Laws.Tests.{contra, dec, dec-lt}
 use Rattle.model.specs.Laws.Lists.{any-false, map-in}
 use Rattle.model.specs.Laws.Parts.{parts-at, command-places}
@@ -35,7 +36,9 @@ use Rattle.demands.specs.Statements.Demand3.{
   decode,
   Performed,
   performed,
+  History,
   World,
+  switched,
 }
 use Rattle.demands.specs.Proofs.Operations.{
   perform-health,
@@ -149,7 +152,7 @@ phasesOf n P = record {
 }
 
 -- a reply that is document 01's for a plant: what both demands say of a served call comes from it
-pub record Replied (n : ℕ) (P : PlantState) (reply : Reply) : Type 0 where
+pub record Replied (n : ℕ) (P : PlantState) (reply : StateReply) : Type 0 where
   pub chosen : reply .answer .choices ≡ choices n (P .health)
   pub decoded : decode n (reply .buffer) ≡ some (phasesOf n P)
 
@@ -161,28 +164,29 @@ module _ {n : ℕ} {ring : Ring} {P : PlantState} (small : n ≤ largest) (ready
   unfolding nextSheet
   sheet-is = rw (ready .size) (sheet-ext n (commandsOf (ring .commands)) (P .last) T (P .health) (ready .standing) (ready .health))
 
-  pub served-decodes : (buffer : List ℕ) → decode n (servedReply ring buffer .buffer) ≡ some (phasesOf n P)
-  unfolding servedReply phasesOf sheet
+  pub served-decodes : (buffer : List ℕ) → decode n (written (nextSheet ring) buffer) ≡ some (phasesOf n P)
+  unfolding phasesOf sheet
   served-decodes buffer = rw sheet-is
       (decode-sheet n small (opening n (P .last) (commands n (P .health))) (closing n (P .last) (plan n (P .health)))
       (λ p m. opening-at n (P .last) (commands n (P .health)) p m .0)
       (λ p m. closing-at n (P .health) (P .last) p m .0) buffer)
 
-  served-choices : (buffer : List ℕ) → servedReply ring buffer .answer .choices ≡ choices n (P .health)
-  unfolding servedReply servedAnswer
-  served-choices buffer = rw (ready .size) (choices-ext n T (P .health) (ready .health))
+  pub served-choices : calledFor ring ≡ choices n (P .health)
+  served-choices = rw (ready .size) (choices-ext n T (P .health) (ready .health))
 
-  -- the reply's choices and phases are document 01's for the plant
-  pub served-replied : (buffer : List ℕ) → Replied n P (servedReply ring buffer)
-  served-replied buffer = record { chosen = served-choices buffer; decoded = served-decodes buffer }
+-- the reply's choices and phases are document 01's for the plant
+pub served-replied : {n : ℕ} (state : RingState) {P : PlantState} → n ≤ largest → Ready n (state .ring) P → (buffer : List ℕ)
+    → Replied n P (servedBy state buffer)
+unfolding servedState
+served-replied state small ready buffer = record { chosen = served-choices small ready; decoded = served-decodes small ready buffer }
 
 -- ---- what stands between calls
 
 pub record Steady (n : ℕ) (W : World) : Type 0 where
-  pub size : W .ring .n ≡ n
-  pub health : Agree n (healthOf (W .ring .health)) (W .plant .health)
-  pub standing : Agree n (commandsOf (W .ring .commands)) (W .plant .last)
-  pub above : (p : Part) → InRing largest p → n < number p → (healthOf (W .ring .health) p ≡ 0) × (commandsOf (W .ring .commands) p ≡ false)
+  pub size : W .state .ring .n ≡ n
+  pub health : Agree n (healthOf (W .state .ring .health)) (W .plant .health)
+  pub standing : Agree n (commandsOf (W .state .ring .commands)) (W .plant .last)
+  pub above : (p : Part) → InRing largest p → n < number p → (healthOf (W .state .ring .health) p ≡ 0) × (commandsOf (W .state .ring .commands) p ≡ false)
   pub kinds : (p : Part) → InRing n p → healthOfKind p (W .plant .health p) ≡ true
   pub planned : Agree n (W .plant .last) (commands n (W .plant .health))
   pub shown : W .shown ≡ choices n (W .plant .health)
@@ -196,20 +200,20 @@ not-commanded n H p l = go (dec (commands n H p))
     go (inr e) = e
 
 -- after a transition all is steady
-pub transition-steady : {n : ℕ} {ring : Ring} {P Q : PlantState} → n ≤ largest → Ready n ring P
-    → ((p : Part) → InRing n p → healthOfKind p (healthOf (ring .health) p) ≡ true)
-    → ((p : Part) → InRing largest p → n < number p → healthOf (ring .health) p ≡ 0)
-    → (buffer : List ℕ) → Performed (phasesOf n P) P Q
-    → Steady n (record { plant = Q; ring = servedReply ring buffer .answer .ring; shown = servedReply ring buffer .answer .choices })
-unfolding servedReply servedAnswer withPlan planned phasesOf
-transition-steady {n} {ring} {P} small ready kinds above buffer (performed {xs = xs} {ys = ys} ax ay) = record {
+pub transition-steady : {n : ℕ} (state : RingState) {P Q : PlantState} (h : History) → n ≤ largest → Ready n (state .ring) P
+    → ((p : Part) → InRing n p → healthOfKind p (healthOf (state .ring .health) p) ≡ true)
+    → ((p : Part) → InRing largest p → n < number p → healthOf (state .ring .health) p ≡ 0)
+    → Performed (phasesOf n P) P Q
+    → Steady n (switched Q (servedState state) h)
+unfolding servedState reckoned withPlan planned phasesOf
+transition-steady {n} state {P} h small ready kinds above (performed {xs = xs} {ys = ys} ax ay) = record {
   size = ready .size;
   health = λ p r. ready .health p r ∙ kept p;
-  standing = λ p r. command-places (planned ring) p (wide p r) ∙ new p ∙ sym (both-done n P (P .health) xs ys dx dy p r);
-  above = λ p r l. (above p r l, command-places (planned ring) p r ∙ new p ∙ not-commanded n (P .health) p l);
+  standing = λ p r. command-places (planned (state .ring)) p (wide p r) ∙ new p ∙ sym (both-done n P (P .health) xs ys dx dy p r);
+  above = λ p r l. (above p r l, command-places (planned (state .ring)) p r ∙ new p ∙ not-commanded n (P .health) p l);
   kinds = λ p r. rw (← ready .health p r ∙ kept p) (kinds p r);
   planned = λ p r. both-done n P (P .health) xs ys dx dy p r ∙ ap (λ K. commands n K p) (sym same-health);
-  shown = served-choices small ready buffer ∙ ap (choices n) (sym same-health);
+  shown = served-choices small ready ∙ ap (choices n) (sym same-health);
 }
   where
     dx : List·Permᴰ xs (map (operation false) (opening n (P .last) (commands n (P .health))))
@@ -227,10 +231,10 @@ transition-steady {n} {ring} {P} small ready kinds above buffer (performed {xs =
     wide : (p : Part) → InRing n p → InRing largest p
     wide p r = (r .0, omega (arith, r .1))
 
-    new : (p : Part) → planned ring p ≡ commands n (P .health) p
-    new p = rw (ready .size) (commands-ext n (healthOf (ring .health)) (P .health) (ready .health) p)
+    new : (p : Part) → planned (state .ring) p ≡ commands n (P .health) p
+    new p = rw (ready .size) (commands-ext n (healthOf (state .ring .health)) (P .health) (ready .health) p)
 
--- ---- a steady record meets no condition of refusal 9
+-- ---- a steady record meets none of document 01's conditions of refusal 9
 
 pub fit-of-kind : (p : Part) → healthOfKind p 0 ≡ true
 unfolding healthOfKind
@@ -244,10 +248,10 @@ beq-refl false = refl
 
 module _ {n : ℕ} {W : World} (s : Steady n W) where
   abbrev H : PartHealth
-  H = healthOf (W .ring .health)
+  H = healthOf (W .state .ring .health)
 
   abbrev C : PartCommands
-  C = commandsOf (W .ring .commands)
+  C = commandsOf (W .state .ring .commands)
 
   -- a part that a record has a place for is of the ring or above it
   in-or-above : (p : Part) → p ∈ parts largest → InRing n p ⊎ (InRing largest p × (n < number p))
@@ -285,6 +289,6 @@ module _ {n : ℕ} {W : World} (s : Steady n W) where
       go p (inl r) = s .standing p r ∙ s .planned p r ∙ sym (commands-ext n H (W .plant .health) (s .health) p)
       go p (inr r) = s .above p (r .0) (r .1) .1 ∙ sym (not-commanded n H p (r .1))
 
-  pub steady-good : smallest ≤ n → n ≤ largest → badRecord (W .ring) ≡ false
-  unfolding badRecord sizeOutside anyOf
-  steady-good big small = rw (s .size, le-ltb n smallest big, le-ltb largest n small, health-inside, quiet-above, all-planned)
+  pub steady-ring : smallest ≤ n → n ≤ largest → badRing (W .state .ring) ≡ false
+  unfolding badRing sizeOutside anyOf
+  steady-ring big small = rw (s .size, le-ltb n smallest big, le-ltb largest n small, health-inside, quiet-above, all-planned)

@@ -1,4 +1,4 @@
--- Facts of the tables in demand 3's statement: the words of a call, what is excepted, and what the decoder takes.
+-- Facts of the tables in demand 3's statement: the words of a call, what is excepted, what the decoder takes, and whose watts a booking's are.
 use mathlib.Core.Path.{_≡_, refl, ap}
 use mathlib.Core.Bool.{true, false, _||_, cond}
 use mathlib.Core.Logic.{_⊎_, inl, inr}
@@ -11,7 +11,7 @@ use Rattle.model.specs.declared.Part.the-variants.{Generator, GeneratorBreaker,
 use Rattle.model.specs.declared.Word.{Word}
 use Rattle.model.specs.declared.Word.the-variants.{Fit, StuckOff, StuckOpen, StuckClosed}
 use Rattle.model.specs.declared.Report.{Report}
-use Rattle.model.specs.declared.Feed.the-variants.{Dark, Fed}
+use Rattle.model.specs.declared.Feed.the-variants.{Dark, Fed, Clash}
 use Rattle.model.specs.Lists.{below, keep, first, anyOf, allOf, _∈_}
 use Rattle.model.specs.Values.{partCode, samePart, feedSources}
 use Rattle.model.specs.Plant.{parts, up, arc, connected, feeds, feeders, feedBy, busFeed}
@@ -30,7 +30,18 @@ use Rattle.demands.specs.Statements.Demand3.{
   operations,
   phasesAt,
   decode,
+  Call,
+  BookingCall,
+  Calls,
+  _then_,
+  _also_,
+  Begins,
+  whole,
+  longer,
+  longer-booking,
   excepted,
+  fedBy,
+  fedByNone,
 }
 use Rattle.demands.specs.Statements.Returns.{none-returns, returns, ByOperationAlone}
 
@@ -88,6 +99,15 @@ decodes :
     × (operations 3 (64 ∷ []) [] ≡ none)
 unfolding decode phasesAt operations withOperation commandNamed partNamed partCode parts below first
 decodes = (refl, refl, refl, refl, refl, refl, refl, refl)
+
+-- every list begins with what stands before its last call, of either kind
+begins : (before : Calls) (c : Call) (b : BookingCall) → Begins before (before then c) × Begins before (before also b)
+begins before c b = (longer whole, longer-booking whole)
+
+-- a booking counts for the generator that alone feeds its bus, or for the dark buses; at a clash for neither
+counts : (fedBy 1 Dark ≡ false) × (fedBy 1 (Fed 1) ≡ true) × (fedBy 1 (Fed 2) ≡ false) × (fedBy 1 (Clash 1 2) ≡ false)
+    × (fedByNone Dark ≡ true) × (fedByNone (Fed 1) ≡ false) × (fedByNone (Clash 1 2) ≡ false)
+counts = (refl, refl, refl, refl, refl, refl, refl)
 
 -- ---- a plant in which an order waits for a part to return does not have what is claimed of every list's
 

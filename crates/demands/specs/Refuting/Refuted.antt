@@ -11,22 +11,23 @@ use lib.ListN.{length, take, drop}
 use borrow.Author.Tests.{eq-eqb, not-true, ltb-true, lt-ltb}
 use Rattle.model.specs.declared.Part.{Part}
 use Rattle.model.specs.declared.Report.{Report}
-use Rattle.model.specs.declared.Ring.{Ring}
+use Rattle.model.specs.declared.RingState.{RingState}
 use Rattle.model.specs.declared.Choice.{Choice}
 use Rattle.model.specs.declared.Choice.the-variants as choice
+use Rattle.model.specs.declared.BookingAnswer.{BookingAnswer}
 use Rattle.model.specs.declared.Outcome.{Outcome}
 use Rattle.model.specs.declared.Outcome.the-variants as outcome
 use Rattle.model.specs.declared.Feed.{Feed}
 use Rattle.model.specs.declared.Feed.the-variants as feed
-use Rattle.model.specs.Lists.{below, first, anyOf, isNone, _∈_, RisingBy, empty, more}
+use Rattle.model.specs.Lists.{below, first, anyOf, sum, isNone, _∈_, RisingBy, empty, more}
 use Rattle.model.specs.Values.{partCode, samePart, outcomeNumber, choiceSource, choiceAt}
 use Rattle.model.specs.Plant.{PartHealth, largest, InRing, parts, busFeed, Reaches}
 use Rattle.model.specs.Priority.{Path}
-use Rattle.model.specs.Choosing.{permitted, choose, chosen, plan, commands, choiceOf, choices}
+use Rattle.model.specs.Choosing.{permitted, choose, chosen, plan, commands, choiceOf}
 use Rattle.model.specs.Sheet.{opening, closing}
 use Rattle.model.specs.Reports.{blankRing}
-use Rattle.model.specs.Answers.{Reply}
-use Rattle.model.specs.Laws.Tests.{contra, dec, dec-lt, or-cases, and-left, and-right, and-intro}
+use Rattle.model.specs.States.{StateReply, unloaded}
+use Rattle.model.specs.Laws.Tests.{contra, dec, dec-lt, or-cases, and-left, and-right, and-intro, not-less}
 use Rattle.model.specs.Laws.Lists.{any-at, any-in, below-lt, first-none, first-past, none-some}
 use Rattle.model.specs.Laws.Parts.{parts-at, same-refl}
 use Rattle.model.specs.Laws.Sheet.{closing-paths}
@@ -46,13 +47,17 @@ use Rattle.demands.specs.Statements.Demand3.{
   Call,
   Calls,
   _then_,
+  _also_,
   nothing,
   isStuckClosed,
   whole,
   longer,
+  longer-booking,
   replyTo,
+  answerTo,
   words,
   lent,
+  servedOutcome,
   isServed,
   World,
   Performed,
@@ -71,17 +76,22 @@ use Rattle.demands.specs.Statements.Demand3.{
   shownAt,
   BusShown,
   RecordGiven,
+  LoadGiven,
   AsChosen,
   StartMeets,
   too-large,
   Meets,
+  BookingMeets,
+  BookingAnswered,
   Answered,
   Holds,
   Demand3,
 }
 use Rattle.theory.specs.Theorems.Closing.{closing-at}
 use Rattle.demands.specs.Proofs.Operations.{opening-at}
+use Rattle.demands.specs.Proofs.Standing.{same-phases}
 use Rattle.demands.specs.Proofs.Answering.{Judged, met, fine, judge-start, judge-call, CallFine}
+use Rattle.demands.specs.Proofs.Booking.{bookingNumber, judge-booking}
 use Rattle.demands.specs.Statements.Demand2.{FirstPermitted, found, not-found, earlier, Needed, ToOpen, ToClose, Serves, Demand2}
 use Rattle.demands.specs.Theorems.Demand2.{earlier-chosen, needed-commanded}
 use Rattle.demands.specs.Refuting.Runs.{ordered, ordered-perm, cut-perm, bothPhases, both-performed, run, run-ended, ended-begun}
@@ -95,9 +105,9 @@ use Rattle.demands.specs.Refuting.Claims.{
   rises,
   onWorld,
   onPhases,
-  ringSum,
+  stateSum,
+  bookingsDigest,
   choicesSum,
-  sum,
   choiceNumber,
   operationsDigest,
   due,
@@ -116,6 +126,11 @@ use Rattle.demands.specs.Refuting.Claims.{
   otherCommand,
   unfitAbove,
   onAbove,
+  otherLive,
+  otherWatts,
+  wattsAbove,
+  otherDarkWatts,
+  otherSum,
   anyClash,
   otherChoice,
   newCommands,
@@ -134,6 +149,9 @@ use Rattle.demands.specs.Refuting.Claims.{
   atPhases,
   atStart,
   atEnd,
+  atLast,
+  atEither,
+  atBooking,
   firstReply,
   fails3,
   fails2,
@@ -189,51 +207,53 @@ unfolding onPhases
 some-phases none f e = contra e refl
 some-phases (some ph) f e = (ph, refl, e)
 
-same-phases : {o : Option Phases} {x y : Phases} → o ≡ some x → o ≡ some y → x ≡ y
-same-phases {o} {x} {y} p q = cc
-
-not-served : (reply : Reply) {k : ℕ} → isServed reply ≡ true → reply .answer .outcome ≡ outcome.Refused k → ⊥
-not-served reply e q = contra (rw q at e) refl
+-- no outcome is both served and refused
+not-served : (o : Outcome) {k : ℕ} → servedOutcome o ≡ true → o ≡ outcome.Refused k → ⊥
+not-served o e q = contra (rw q at e) refl
 
 -- ---- a call is served or refused as it must be
 
-module _ {Met : ℕ → Type 0} {kept : Ring} {buffer : List ℕ} {reply : Reply} (a : Answered Met kept buffer reply) where
-  refused-too : (b : Bool) → not (isServed reply) && b ≡ true → (isServed reply ≡ false) × (b ≡ true)
-  refused-too b e = let t = both (not (isServed reply)) b e in (not-true (isServed reply) (t .0), t .1)
+-- refused, and something else
+refused-too : (o : Outcome) (b : Bool) → not (servedOutcome o) && b ≡ true → (servedOutcome o ≡ false) × (b ≡ true)
+refused-too o b e = let t = both (not (servedOutcome o)) b e in (not-true (servedOutcome o) (t .0), t .1)
 
-  only-sound : {Fine : Type 0} {k : ℕ} → Judged Met Fine k → refusedInVain k reply ≡ true → ⊥
+-- the outcome of a call whose number is k
+module _ {Met : ℕ → Type 0} {Fine : Type 0} {o : Outcome} where
+  only-sound : {k : ℕ} → ((i : ℕ) → o ≡ outcome.Refused i → Met i) → Judged Met Fine k → refusedInVain k o ≡ true → ⊥
   unfolding refusedInVain
-  only-sound {Fine} {k} j e =
-      let t = refused-too (differ (outcomeNumber (reply .answer .outcome)) k) e in go (reply .answer .outcome) refl t
+  only-sound {k} only j e = let t = refused-too o (differ (outcomeNumber o) k) e in go o refl t
     where
       by : {i : ℕ} → Judged Met Fine i → (m : ℕ) → Met m → m ≡ i
       by (met i l x one) m y = one m y
       by (fine free f) m y = absurd (free m y)
 
-      go : (o : Outcome) → reply .answer .outcome ≡ o
-          → (isServed reply ≡ false) × (differ (outcomeNumber (reply .answer .outcome)) k ≡ true) → ⊥
+      go : (p : Outcome) → o ≡ p → (servedOutcome o ≡ false) × (differ (outcomeNumber o) k ≡ true) → ⊥
       go outcome.Served q t = contra (rw q) (t .0)
-      go (outcome.Refused m) q t = unequal (outcomeNumber (reply .answer .outcome)) k (rw q (by j m (a .only m q))) (t .1)
+      go (outcome.Refused m) q t = unequal (outcomeNumber o) k (rw q (by j m (only m q))) (t .1)
 
-  always-sound : {Fine : Type 0} {k : ℕ} → Judged Met Fine k → notRefused k reply ≡ true → ⊥
+  always-sound : {k : ℕ} → ((i : ℕ) → Met i → o ≡ outcome.Refused i) → Judged Met Fine k → notRefused k o ≡ true → ⊥
   unfolding notRefused
-  always-sound (met k l m one) e = unequal (outcomeNumber (reply .answer .outcome)) k (rw (a .always k m)) (both (differ k 0) _ e .1)
-  always-sound (fine free f) e = contra e refl
+  always-sound always (met k l m one) e = unequal (outcomeNumber o) k (rw (always k m)) (both (differ k 0) _ e .1)
+  always-sound always (fine free f) e = contra e refl
 
-  record-sound : recordChanged kept reply ≡ true → ⊥
-  unfolding recordChanged
-  record-sound e =
-      let t = refused-too _ e in
-      unequal (ringSum (reply .answer .ring)) (ringSum kept) (ap ringSum (a .record-kept (t .0))) (t .1)
+-- .. and the record that it gives where it is refused
+record-sound : (o : Outcome) {kept given : RingState} → (servedOutcome o ≡ false → given ≡ kept) → recordChanged kept o given ≡ true → ⊥
+unfolding recordChanged
+record-sound o {kept} {given} same e =
+    let t = refused-too o _ e in unequal (stateSum given) (stateSum kept) (ap stateSum (same (t .0))) (t .1)
 
+-- .. and what a call with orders does to its buffer, and its choices
+module _ {Met : ℕ → Type 0} {kept : RingState} {buffer : List ℕ} {reply : StateReply} (a : Answered Met kept buffer reply) where
   buffer-sound : bufferChanged buffer reply ≡ true → ⊥
   unfolding bufferChanged
-  buffer-sound e = let t = refused-too _ e in unequal (sum (reply .buffer)) (sum buffer) (ap sum (a .buffer-kept (t .0))) (t .1)
+  buffer-sound e =
+      let t = refused-too (reply .answer .outcome) _ e in unequal (sum (reply .buffer)) (sum buffer) (ap sum (a .buffer-kept (t .0))) (t .1)
 
   choices-sound : choicesLit reply ≡ true → ⊥
   unfolding choicesLit
   choices-sound e =
-      let t = refused-too _ e in unequal (choicesSum (reply .answer .choices)) _ (ap choicesSum (a .choices-dark (t .0))) (t .1)
+      let t = refused-too (reply .answer .outcome) _ e in
+      unequal (choicesSum (reply .answer .choices)) _ (ap choicesSum (a .choices-dark (t .0))) (t .1)
 
   behind-sound : behindChanged buffer reply ≡ true → ⊥
   unfolding behindChanged
@@ -246,12 +266,13 @@ module _ {Met : ℕ → Type 0} {kept : Ring} {buffer : List ℕ} {reply : Reply
 -- ---- the list of a test
 
 -- where the start is served, n is a ring's
-in-range : (c : Controller) (n : ℕ) (buffer : List ℕ) → Answered (StartMeets n (length buffer)) (blankRing 0) buffer (c .start n buffer)
+in-range : (c : Controller) (n : ℕ) (buffer : List ℕ)
+    → Answered (StartMeets n (length buffer)) (unloaded (blankRing 0)) buffer (c .start n buffer)
     → isServed (c .start n buffer) ≡ true → n ≤ largest
 in-range c n buffer a s = go (dec-lt largest n)
   where
     go : (largest < n) ⊎ (n ≤ largest) → n ≤ largest
-    go (inl l) = absurd (not-served (c .start n buffer) s (a .always 2 (too-large l)))
+    go (inl l) = absurd (not-served (c .start n buffer .answer .outcome) s (a .always 2 (too-large l)))
     go (inr l) = l
 
 -- the refusal due to a call is the one that meets it
@@ -263,25 +284,25 @@ module _ (c : Controller) (i : Instance) where
   abbrev n : ℕ
   n = i .size
 
-  abbrev start : Reply
+  abbrev start : StateReply
   start = c .start n (i .lending)
 
   abbrev EndedBefore : World → Type 0
   EndedBefore W = Ended c n (i .lending) (i .calls) W
 
-  abbrev replyIn : World → Reply
-  replyIn W = replyTo c (W .ring) (i .call)
+  abbrev replyIn : World → StateReply
+  replyIn W = replyTo c (W .state) (i .call)
 
   abbrev plantIn : World → PlantState
   plantIn W = afterWords (words (i .call)) (W .plant)
 
-  at-call : (f : World → Reply → Bool) → atCall c i f ≡ true → (W : World) × EndedBefore W × (f W (replyIn W) ≡ true)
+  at-call : (f : World → StateReply → Bool) → atCall c i f ≡ true → (W : World) × EndedBefore W × (f W (replyIn W) ≡ true)
   unfolding atCall
   at-call f e =
       let t = some-world (run c (i .backward) n (i .lending) (i .calls)) (λ W. f W (replyIn W)) e in
       (t .0, run-ended c (i .backward) n (i .lending) (i .calls) (t .0) (t .1), t .2)
 
-  at-served : (f : PlantState → Reply → Bool) → atServed c i f ≡ true
+  at-served : (f : PlantState → StateReply → Bool) → atServed c i f ≡ true
       → (W : World) × EndedBefore W × (isServed (replyIn W) ≡ true) × (f (plantIn W) (replyIn W) ≡ true)
   unfolding atServed
   at-served f e =
@@ -311,6 +332,21 @@ module _ (c : Controller) (i : Instance) where
   at-end f e =
       let t = some-world (run c (i .backward) n (i .lending) (i .calls then i .call)) f e in
       (t .0, run-ended c (i .backward) n (i .lending) (i .calls then i .call) (t .0) (t .1), t .2)
+
+  -- the world after the calls before it
+  at-last : (f : World → Bool) → atLast c i f ≡ true → (W : World) × EndedBefore W × (f W ≡ true)
+  unfolding atLast
+  at-last f e =
+      let t = some-world (run c (i .backward) n (i .lending) (i .calls)) f e in
+      (t .0, run-ended c (i .backward) n (i .lending) (i .calls) (t .0) (t .1), t .2)
+
+  -- what the booking or the cancellation is answered there
+  abbrev answerIn : World → BookingAnswer
+  answerIn W = answerTo c (W .state) (i .booking)
+
+  at-booking : (f : World → BookingAnswer → Bool) → atBooking c i f ≡ true → (W : World) × EndedBefore W × (f W (answerIn W) ≡ true)
+  unfolding atBooking
+  at-booking f e = at-last (λ W. f W (answerIn W)) e
 
 -- ---- what is shown and given when the orders have ended
 
@@ -379,9 +415,34 @@ module _ {n : ℕ} {W : World} (g : RecordGiven n W) where
       let u = both (ltb n _) _ (t .2) in
       contra (u .1) (g .commands-above (t .0) (t .1) (ltb-true n _ (u .0)))
 
+-- what the record gives of bookings
+module _ {n : ℕ} {W : World} (l : LoadGiven n W) where
+  bookings-sound : otherLive W ≡ true → ⊥
+  unfolding otherLive
+  bookings-sound e = unequal _ _ (ap bookingsDigest (l .bookings)) e
+
+  watts-sound : anyOf (otherWatts n W) (below n) ≡ true → ⊥
+  unfolding otherWatts
+  watts-sound e = let t = some-bus n (otherWatts n W) e in unequal _ _ (l .watts (t .0) (t .1)) (t .2)
+
+  watts-above-sound : anyOf (wattsAbove n W) (below largest) ≡ true → ⊥
+  unfolding wattsAbove
+  watts-above-sound e =
+      let t = any-at (wattsAbove n W) (below largest) e in
+      let u = both (not (ltb (t .0) n)) _ (t .2) in
+      unequal _ _ (l .watts-above (t .0) (not-less (t .0) n (u .0))) (u .1)
+
+  dark-watts-sound : otherDarkWatts n W ≡ true → ⊥
+  unfolding otherDarkWatts
+  dark-watts-sound e = unequal _ _ (l .dark-watts) e
+
+  sums-sound : otherSum W ≡ true → ⊥
+  unfolding otherSum
+  sums-sound e = unequal _ _ (l .sums) e
+
 -- ---- a served call's choices and phases
 
-module _ {n : ℕ} {P : PlantState} {reply : Reply} (small : n ≤ largest) (a : AsChosen n P reply) where
+module _ {n : ℕ} {P : PlantState} {reply : StateReply} (small : n ≤ largest) (a : AsChosen n P reply) where
   names : (b : ℕ) → b < n → choiceAt (reply .answer .choices) b ≡ choiceOf n (plan n (P .health) b)
   names b hb = rw (a .choices-are) (choices-at n (P .health) b (record { choice = choice.Dark }) hb small)
 
@@ -442,7 +503,7 @@ module _ (c : Controller) (i : Instance) (d : Demand3 c) where
   list = i .calls then i .call
 
   -- the start, and what holds of the list up to the call
-  start-claimed : Answered (StartMeets N (length (i .lending))) (blankRing 0) (i .lending) (c .start N (i .lending))
+  start-claimed : Answered (StartMeets N (length (i .lending))) (unloaded (blankRing 0)) (i .lending) (c .start N (i .lending))
   start-claimed = d .start-answered N (i .lending)
 
   small : isServed (c .start N (i .lending)) ≡ true → N ≤ largest
@@ -452,7 +513,7 @@ module _ (c : Controller) (i : Instance) (d : Demand3 c) where
     holds : Holds c N (i .lending) list
     holds = d .holds N (i .lending) (ended-begun h) list
 
-    claimed : Answered (Meets N (W .plant) (i .call)) (W .ring) (lent (i .call)) (replyIn c i W)
+    claimed : Answered (Meets N (W .plant) (i .call)) (W .state) (lent (i .call)) (replyIn c i W)
     claimed = holds .answered (i .call) whole h
 
     judged : Judged (Meets N (W .plant) (i .call)) (CallFine N (W .plant) (i .call)) (due N (W .plant) (i .call))
@@ -466,6 +527,16 @@ module _ (c : Controller) (i : Instance) (d : Demand3 c) where
         → Moment ph (plantIn c i W) rest P → excepted (words (i .call)) rest ≡ false → anyClash N P ≡ true → ⊥
     free-in rest {P} s q m x = clash-sound N P (holds .no-clash (rw x at (in-call (i .call) whole h s q m)))
 
+    -- .. of the list up to a booking or a cancellation in its place: what is given of bookings before it, and its answer
+    record-in : RecordGiven N W
+    record-in = d .holds N (i .lending) (ended-begun h) (i .calls also i .booking) .given (longer-booking whole) h
+
+    load-in : LoadGiven N W
+    load-in = d .holds N (i .lending) (ended-begun h) (i .calls also i .booking) .load-given (longer-booking whole) h
+
+    booking-claimed : BookingAnswered (BookingMeets N (W .history) (i .booking)) (W .state) (answerIn c i W)
+    booking-claimed = d .holds N (i .lending) (ended-begun h) (i .calls also i .booking) .booking-answered (i .booking) whole h
+
   -- .. and of the list after the call, with another call behind it
   module _ {W : World} (h : Ended c N (i .lending) list W) where
     after : Holds c N (i .lending) (list then i .call)
@@ -476,6 +547,15 @@ module _ (c : Controller) (i : Instance) (d : Demand3 c) where
 
     given-in : RecordGiven N W
     given-in = after .given (longer whole) h
+
+  -- after the call, or before it
+  given-either : (f : World → Bool) → atEither c i f ≡ true → (W : World) × RecordGiven N W × (f W ≡ true)
+  unfolding atEither
+  given-either f e = go (or-cases (atEnd c i f) (atLast c i f) e)
+    where
+      go : (atEnd c i f ≡ true) ⊎ (atLast c i f ≡ true) → (W : World) × RecordGiven N W × (f W ≡ true)
+      go (inl q) = let t = at-end c i f q in (t .0, given-in (t .1), t .2)
+      go (inr q) = let t = at-last c i f q in (t .0, record-in (t .1), t .2)
 
   module _ (s : isServed (c .start N (i .lending)) ≡ true) where
     begun : Holds c N (i .lending) (i .calls)
@@ -490,20 +570,22 @@ module _ (c : Controller) (i : Instance) (d : Demand3 c) where
   -- a controller that meets the demand fails no test of its claims
   pub refutes3 : (claim : Claim3) → fails3 c i claim ≡ true → ⊥
   unfolding fails3 startOf firstReply startDue clashInFirst clashInSecond
-  refutes3 claim.start-only e = only-sound start-claimed (judge-start N (length (i .lending))) e
-  refutes3 claim.start-always e = always-sound start-claimed (judge-start N (length (i .lending))) e
-  refutes3 claim.start-record-kept e = record-sound start-claimed e
+  refutes3 claim.start-only e = only-sound (start-claimed .only) (judge-start N (length (i .lending))) e
+  refutes3 claim.start-always e = always-sound (start-claimed .always) (judge-start N (length (i .lending))) e
+  refutes3 claim.start-record-kept e = record-sound (c .start N (i .lending) .answer .outcome) (start-claimed .record-kept) e
   refutes3 claim.start-buffer-kept e = buffer-sound start-claimed e
   refutes3 claim.start-choices-dark e = choices-sound start-claimed e
   refutes3 claim.start-behind-kept e = behind-sound start-claimed e
   refutes3 claim.start-length-kept e = length-sound start-claimed e
   refutes3 claim.only e =
-      let t = at-call c i (λ W reply. refusedInVain (due N (W .plant) (i .call)) reply) e in
-      only-sound (claimed (t .1)) (judged (t .1)) (t .2)
+      let t = at-call c i (λ W reply. refusedInVain (due N (W .plant) (i .call)) (reply .answer .outcome)) e in
+      only-sound (claimed (t .1) .only) (judged (t .1)) (t .2)
   refutes3 claim.always e =
-      let t = at-call c i (λ W reply. notRefused (due N (W .plant) (i .call)) reply) e in
-      always-sound (claimed (t .1)) (judged (t .1)) (t .2)
-  refutes3 claim.record-kept e = let t = at-call c i (λ W reply. recordChanged (W .ring) reply) e in record-sound (claimed (t .1)) (t .2)
+      let t = at-call c i (λ W reply. notRefused (due N (W .plant) (i .call)) (reply .answer .outcome)) e in
+      always-sound (claimed (t .1) .always) (judged (t .1)) (t .2)
+  refutes3 claim.record-kept e =
+      let t = at-call c i (λ W reply. recordChanged (W .state) (reply .answer .outcome) (reply .answer .state)) e in
+      record-sound (replyIn c i (t .0) .answer .outcome) (claimed (t .1) .record-kept) (t .2)
   refutes3 claim.buffer-kept e =
       let t = at-call c i (λ W reply. bufferChanged (lent (i .call)) reply) e in buffer-sound (claimed (t .1)) (t .2)
   refutes3 claim.choices-dark e = let t = at-call c i (λ W reply. choicesLit reply) e in choices-sound (claimed (t .1)) (t .2)
@@ -518,13 +600,13 @@ module _ (c : Controller) (i : Instance) (d : Demand3 c) where
       unended : {W : World} → decode N (c .start N (i .lending) .buffer) ≡ none → Ended c N (i .lending) nothing W → ⊥
       unended z (started s q p) = none-some z q
   refutes3 claim.ends-after e =
-      let reply = replyTo c (c .start N (i .lending) .answer .ring) (i .call) in
+      let reply = replyTo c (c .start N (i .lending) .answer .state) (i .call) in
       let t = both (isServed (c .start N (i .lending))) _ e in
       let u = both (isServed reply) _ (t .1) in
       unended (u .0) (is-none (decode N (reply .buffer)) (u .1)) (d .holds N (i .lending) (t .0) (nothing then i .call) .ends .1)
     where
-      unended : {W : World} → isServed (replyTo c (c .start N (i .lending) .answer .ring) (i .call)) ≡ true
-          → decode N (replyTo c (c .start N (i .lending) .answer .ring) (i .call) .buffer) ≡ none
+      unended : {W : World} → isServed (replyTo c (c .start N (i .lending) .answer .state) (i .call)) ≡ true
+          → decode N (replyTo c (c .start N (i .lending) .answer .state) (i .call) .buffer) ≡ none
           → Ended c N (i .lending) (nothing then i .call) W → ⊥
       unended s z (served call (started a b p) x q r) = none-some z q
       unended s z (refused call (started a b p) x) = contra s x
@@ -560,9 +642,10 @@ module _ (c : Controller) (i : Instance) (d : Demand3 c) where
   refutes3 claim.de-energized e =
       let t = at-end c i (λ W. anyOf (darkThoughFed N W) (below N)) e in
       bus-sound (t .1) (darkThoughFed N (t .0)) (λ b hb s x. de-energized-sound hb s x) (t .2)
-  refutes3 claim.size e = let t = at-end c i (λ W. differ (W .ring .n) N) e in unequal (t .0 .ring .n) N (given-in (t .1) .size) (t .2)
-  refutes3 claim.health e = let t = at-end c i (λ W. anyOf (otherHealth W) (parts N)) e in health-sound (given-in (t .1)) (t .2)
-  refutes3 claim.standing e = let t = at-end c i (λ W. anyOf (otherCommand W) (parts N)) e in standing-sound (given-in (t .1)) (t .2)
+  refutes3 claim.size e =
+      let t = at-end c i (λ W. differ (W .state .ring .n) N) e in unequal (t .0 .state .ring .n) N (given-in (t .1) .size) (t .2)
+  refutes3 claim.health e = let t = given-either (λ W. anyOf (otherHealth W) (parts N)) e in health-sound (t .1) (t .2)
+  refutes3 claim.standing e = let t = given-either (λ W. anyOf (otherCommand W) (parts N)) e in standing-sound (t .1) (t .2)
   refutes3 claim.health-above e =
       let t = at-end c i (λ W. anyOf (unfitAbove N W) (parts largest)) e in health-above-sound (given-in (t .1)) (t .2)
   refutes3 claim.commands-above e =
@@ -588,6 +671,22 @@ module _ (c : Controller) (i : Instance) (d : Demand3 c) where
   refutes3 claim.clash-between e =
       let t = at-end c i (λ W. anyClash N (W .plant)) e in
       clash-sound N (t .0 .plant) (after (t .1) .no-clash (between (longer whole) (t .1))) (t .2)
+  refutes3 claim.bookings e = let t = at-last c i otherLive e in bookings-sound (load-in (t .1)) (t .2)
+  refutes3 claim.watts e =
+      let t = at-last c i (λ W. anyOf (otherWatts N W) (below N)) e in watts-sound (load-in (t .1)) (t .2)
+  refutes3 claim.watts-above e =
+      let t = at-last c i (λ W. anyOf (wattsAbove N W) (below largest)) e in watts-above-sound (load-in (t .1)) (t .2)
+  refutes3 claim.dark-watts e = let t = at-last c i (otherDarkWatts N) e in dark-watts-sound (load-in (t .1)) (t .2)
+  refutes3 claim.sums e = let t = at-last c i otherSum e in sums-sound (load-in (t .1)) (t .2)
+  refutes3 claim.booking-only e =
+      let t = at-booking c i (λ W answer. refusedInVain (bookingNumber N (W .history) (i .booking)) (answer .outcome)) e in
+      only-sound (booking-claimed (t .1) .only) (judge-booking (i .booking)) (t .2)
+  refutes3 claim.booking-always e =
+      let t = at-booking c i (λ W answer. notRefused (bookingNumber N (W .history) (i .booking)) (answer .outcome)) e in
+      always-sound (booking-claimed (t .1) .always) (judge-booking (i .booking)) (t .2)
+  refutes3 claim.booking-record-kept e =
+      let t = at-booking c i (λ W answer. recordChanged (W .state) (answer .outcome) (answer .state)) e in
+      record-sound (answerIn c i (t .0) .outcome) (booking-claimed (t .1) .record-kept) (t .2)
 
 -- ---- demand 2
 
@@ -604,7 +703,7 @@ rises-by (more l empty) = refl
 rises-by {g = g} (more {x = x} l (more {x = y} k r)) =
     and-intro (ltb (g x) (g y)) _ (lt-ltb (g x) (g y) (l y (List·Memᴰ·head refl))) (rises-by (more k r))
 
-module _ {n : ℕ} {P : PlantState} {reply : Reply} (s : Serves n P reply) where
+module _ {n : ℕ} {P : PlantState} {reply : StateReply} (s : Serves n P reply) where
   abbrev R : PartHealth
   R = P .health
 
@@ -729,11 +828,11 @@ module _ (c : Controller) (i : Instance) (d : Demand2 c) where
   abbrev M : ℕ
   M = i .size
 
-  starting : Answered (StartMeets M (length (i .lending))) (blankRing 0) (i .lending) (c .start M (i .lending))
+  starting : Answered (StartMeets M (length (i .lending))) (unloaded (blankRing 0)) (i .lending) (c .start M (i .lending))
   starting = d .start-answered M (i .lending)
 
   module _ {W : World} (h : Ended c M (i .lending) (i .calls) W) where
-    answering : Answered (Meets M (W .plant) (i .call)) (W .ring) (lent (i .call)) (replyIn c i W)
+    answering : Answered (Meets M (W .plant) (i .call)) (W .state) (lent (i .call)) (replyIn c i W)
     answering = d .call-answered M (i .lending) (ended-begun h) (i .call) h
 
     serving : isServed (replyIn c i W) ≡ true → Serves M (plantIn c i W) (replyIn c i W)
@@ -745,10 +844,10 @@ module _ (c : Controller) (i : Instance) (d : Demand2 c) where
   -- a controller that meets the demand fails no test of its claims
   pub refutes2 : (claim : Claim2) → fails2 c i claim ≡ true → ⊥
   unfolding fails2 startOf startDue
-  refutes2 claim.start-answered e = only-sound starting (judge-start M (length (i .lending))) e
+  refutes2 claim.start-answered e = only-sound (starting .only) (judge-start M (length (i .lending))) e
   refutes2 claim.call-answered e =
-      let t = at-call c i (λ W reply. refusedInVain (due M (W .plant) (i .call)) reply) e in
-      only-sound (answering (t .1)) (judging (t .1)) (t .2)
+      let t = at-call c i (λ W reply. refusedInVain (due M (W .plant) (i .call)) (reply .answer .outcome)) e in
+      only-sound (answering (t .1) .only) (judging (t .1)) (t .2)
   refutes2 claim.start-path e =
       let t = both (isServed (c .start M (i .lending))) _ e in path-sound (d .start-serves M (i .lending) (t .0)) (t .1)
   refutes2 claim.call-path e =

@@ -15,7 +15,7 @@ use Rattle.model.specs.Priority.{Path, pathParts, paths}
 use Rattle.model.specs.Choosing.{permitted, addPath, choiceOf}
 use Rattle.model.specs.Sheet.{closing}
 use Rattle.model.specs.Reports.{blankRing}
-use Rattle.model.specs.Answers.{Reply}
+use Rattle.model.specs.States.{StateReply, unloaded}
 use Rattle.model.specs.Lists.{_∈_, RisingBy}
 use Rattle.demands.specs.Statements.Demand3.{
   Controller,
@@ -64,7 +64,7 @@ abbrev pub ToClose : ℕ → PlantState → (ℕ → Option Path) → Operation 
 ToClose n P f o = (o .command ≡ true) × InRing n (o .part) × (P .last (o .part) ≡ false) × Needed n f (o .part)
 
 -- what a served call's answer is, for the plant just before its operations
-pub record Serves (n : ℕ) (P : PlantState) (reply : Reply) : Type 0 where
+pub record Serves (n : ℕ) (P : PlantState) (reply : StateReply) : Type 0 where
   -- each bus's path, and its name in the answer
   pub path : ℕ → Option Path
   pub named : (b : ℕ) → b < n → choiceAt (reply .answer .choices) b ≡ choiceOf n (path b)
@@ -86,11 +86,11 @@ pub record Serves (n : ℕ) (P : PlantState) (reply : Reply) : Type 0 where
 -- "For every list of reports": a statement about a controller
 pub record Demand2 (c : Controller) : Type 0 where
   -- a start is served or refused as it must be, and a served one gives what it must
-  pub start-answered : (n : ℕ) (buffer : List ℕ) → Answered (StartMeets n (length buffer)) (blankRing 0) buffer (c .start n buffer)
+  pub start-answered : (n : ℕ) (buffer : List ℕ) → Answered (StartMeets n (length buffer)) (unloaded (blankRing 0)) buffer (c .start n buffer)
   pub start-serves : (n : ℕ) (buffer : List ℕ) → isServed (c .start n buffer) ≡ true → Serves n freshPlant (c .start n buffer)
   -- and so is every call of every list
   pub call-answered : (n : ℕ) (buffer : List ℕ) → isServed (c .start n buffer) ≡ true → {before : Calls} {W : World} (call : Call)
-      → Ended c n buffer before W → Answered (Meets n (W .plant) call) (W .ring) (lent call) (replyTo c (W .ring) call)
+      → Ended c n buffer before W → Answered (Meets n (W .plant) call) (W .state) (lent call) (replyTo c (W .state) call)
   pub call-serves : (n : ℕ) (buffer : List ℕ) → isServed (c .start n buffer) ≡ true → {before : Calls} {W : World} (call : Call)
-      → Ended c n buffer before W → isServed (replyTo c (W .ring) call) ≡ true
-      → Serves n (afterWords (words call) (W .plant)) (replyTo c (W .ring) call)
+      → Ended c n buffer before W → isServed (replyTo c (W .state) call) ≡ true
+      → Serves n (afterWords (words call) (W .plant)) (replyTo c (W .state) call)

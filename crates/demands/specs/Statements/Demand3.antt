@@ -1,7 +1,7 @@
 -- The user's third demand as ONE statement about a controller, a served start and any list of calls after it.
 -- It knows nothing of how a controller comes to its answers. The plant is fed n, the words of served reports, whether each
--- call was served, and the bytes of the lent buffers after served calls; never a record.
--- Document 01, "The plant beside the list", and document 02, Notes 2 to 4. A stroke is an operation here, a halt an interruption, a wave a
+-- call was served, and the bytes of the lent buffers after served calls; never a record. So is what history knows of bookings.
+-- Document 01, "The plant beside the list", and document 02, Notes 2 to 5. A stroke is an operation here, a halt an interruption, a wave a
 -- phase.
 use mathlib.Core.Path.{_≡_}
 use mathlib.Core.Bool.{Bool, true, false, not, _&&_, cond}
@@ -9,7 +9,7 @@ use mathlib.Core.Logic.{_≢_}
 use mathlib.Core.List.{List, [], _∷_, _++_, map, List·Permᴰ}
 use mathlib.Core.Option.{Option, none, some}
 use Prim.Native.Nat.{ℕ, zero, suc, _+_, _*_, _≤_, _<_}
-use lib.Dec.{leb}
+use lib.Dec.{leb, eqb}
 use lib.ListN.{length, getD, take, drop}
 use Rattle.model.specs.declared.Part.{Part}
 use Rattle.model.specs.declared.Part.the-variants.{Generator, GeneratorBreaker, BusBreaker}
@@ -17,26 +17,34 @@ use Rattle.model.specs.declared.Word.{Word}
 use Rattle.model.specs.declared.Word.the-variants.{Fit, StuckOff, StuckOpen, StuckClosed}
 use Rattle.model.specs.declared.Report.{Report}
 use Rattle.model.specs.declared.Scan.{Scan}
-use Rattle.model.specs.declared.Ring.{Ring}
+use Rattle.model.specs.declared.Booking.{Booking}
+use Rattle.model.specs.declared.RingState.{RingState}
+use Rattle.model.specs.declared.StateAnswer.{StateAnswer}
+use Rattle.model.specs.declared.BookingAnswer.{BookingAnswer}
 use Rattle.model.specs.declared.Choice.{Choice}
 use Rattle.model.specs.declared.Choice.the-variants as choice
 use Rattle.model.specs.declared.BusChoice.{BusChoice}
 use Rattle.model.specs.declared.Outcome.{Outcome}
 use Rattle.model.specs.declared.Outcome.the-variants as outcome
+use Rattle.model.specs.declared.Feed.{Feed}
 use Rattle.model.specs.declared.Feed.the-variants as feed
-use Rattle.model.specs.Lists.{anyOf}
-use Rattle.model.specs.Values.{number, samePart, choiceSource, choiceAt}
+use Rattle.model.specs.Lists.{keep, anyOf, sum, _∈_}
+use Rattle.model.specs.Values.{number, index, samePart, choiceSource, choiceAt}
 use Rattle.model.specs.Plant.{PartHealth, PartCommands, smallest, largest, busFeed, InRing, Reaches}
 use Rattle.model.specs.Choosing.{plan, commands, choices}
 use Rattle.model.specs.Sheet.{opening, closing, sheet}
 use Rattle.model.specs.Reports.{partNamed, healthOf, commandsOf, blankRing}
-use Rattle.model.specs.Answers.{Reply, allDark}
+use Rattle.model.specs.Answers.{allDark}
+use Rattle.model.specs.Bookings.{liveBookings, totalWatts}
+use Rattle.model.specs.States.{StateReply, unloaded}
 
--- a controller: what it gives at a start, and at a step or a scan with the record handed in
+-- a controller: what it gives at a start, and at a step, a scan, a booking or a cancellation with the record handed in
 pub record Controller : Type 0 where
-  pub start : ℕ → List ℕ → Reply
-  pub step : Ring → Report → List ℕ → Reply
-  pub scan : Ring → Scan → List ℕ → Reply
+  pub start : ℕ → List ℕ → StateReply
+  pub step : RingState → Report → List ℕ → StateReply
+  pub scan : RingState → Scan → List ℕ → StateReply
+  pub book : RingState → Booking → BookingAnswer
+  pub cancel : RingState → ℕ → BookingAnswer
 
 -- ---- the plant
 
@@ -129,26 +137,39 @@ decode n bytes =
 
 -- ---- the list of calls
 
--- "each with any report and an order buffer of any length"; "a scan may stand in demand 3's list"
+-- a call with orders: "each with any report and an order buffer of any length"; "a scan may stand in demand 3's list"
 pub data Call : Type 0 where
   step : Report → List ℕ → Call
   scan : Scan → List ℕ → Call
 
--- "any number of steps, or none", scans among them, in the order in which they are made
+-- a call without: "Bookings and cancellations may stand in demand 3's list" (Note 5)
+pub data BookingCall : Type 0 where
+  book : Booking → BookingCall
+  cancel : ℕ → BookingCall
+
+-- "any number of steps, or none", scans, bookings and cancellations among them, in the order in which they are made
 pub data Calls : Type 0 where
   nothing : Calls
   _then_ : Calls → Call → Calls
+  _also_ : Calls → BookingCall → Calls
 
 infixl 20 _then_
+infixl 20 _also_
 -- the calls `before` come first among the calls
 pub data Begins (before : Calls) : Calls → Type 0 where
   whole : Begins before before
   longer : {calls : Calls} {call : Call} → Begins before calls → Begins before (calls then call)
+  longer-booking : {calls : Calls} {call : BookingCall} → Begins before calls → Begins before (calls also call)
 
 -- "Each step gets the record that the call before it returned": what the controller gives
-abbrev pub replyTo : Controller → Ring → Call → Reply
-replyTo c ring (step r buffer) = c .step ring r buffer
-replyTo c ring (scan s buffer) = c .scan ring s buffer
+abbrev pub replyTo : Controller → RingState → Call → StateReply
+replyTo c state (step r buffer) = c .step state r buffer
+replyTo c state (scan s buffer) = c .scan state s buffer
+
+-- .. and what it gives at a booking or a cancellation
+abbrev pub answerTo : Controller → RingState → BookingCall → BookingAnswer
+answerTo c state (book b) = c .book state b
+answerTo c state (cancel v) = c .cancel state v
 
 -- the words that a served call brings; of a scan "places past the count are not read"
 abbrev pub words : Call → List Report
@@ -171,14 +192,46 @@ servedOutcome outcome.Served = true
 servedOutcome (outcome.Refused k) = false
 
 -- "whether each call was served"
-abbrev pub isServed : Reply → Bool
+abbrev pub isServed : StateReply → Bool
 isServed reply = servedOutcome (reply .answer .outcome)
 
--- the plant, the record last returned, and "the choices of the last served call"
+-- .. of a booking or a cancellation
+abbrev pub isBooked : BookingAnswer → Bool
+isBooked answer = servedOutcome (answer .outcome)
+
+-- ---- what history knows of bookings, from served calls alone
+
+-- the live bookings in the order in which they were made, and the watts of all that was booked and of all that was cancelled
+pub record History : Type 0 where
+  pub live : List Booking
+  pub booked : ℕ
+  pub cancelled : ℕ
+
+-- nothing is booked at first
+abbrev pub noHistory : History
+noHistory = record { live = []; booked = 0; cancelled = 0 }
+
+-- a booking has a number
+abbrev pub hasNumber : ℕ → Booking → Bool
+hasNumber v b = eqb (b .number) v
+
+-- what a served booking or cancellation adds to it
+unfoldable pub noted : BookingCall → History → History
+noted (book b) h = record { live = h .live ++ (b ∷ []); booked = h .booked + b .watts; cancelled = h .cancelled }
+noted (cancel v) h = record {
+  live = keep (λ b. not (hasNumber v b)) (h .live);
+  booked = h .booked;
+  cancelled = h .cancelled + totalWatts (keep (hasNumber v) (h .live));
+}
+
+-- ---- what stands between calls
+
+-- the plant, the record last returned, "the choices of the last served call" that gives any, and history
 pub record World : Type 0 where
   pub plant : PlantState
-  pub ring : Ring
+  pub state : RingState
   pub shown : List BusChoice
+  pub history : History
 
 -- "in any order": xs are the operations of a phase, each as often as there
 abbrev pub AnyOrder : List Operation → List Operation → Type 0
@@ -189,19 +242,31 @@ pub data Performed (ph : Phases) (P : PlantState) : PlantState → Type 0 where
   performed : {xs ys : List Operation} → AnyOrder xs (ph .first) → AnyOrder ys (ph .second)
       → Performed ph P (performAll ys (performAll xs P))
 
+-- after a served start, step or scan: the plant as its orders left it, the record and the choices that it gave
+abbrev pub switched : PlantState → StateAnswer → History → World
+switched Q a h = record { plant = Q; state = a .state; shown = a .choices; history = h }
+
+-- after any other call: the plant and what is shown as they were, the record that it gave
+abbrev pub unswitched : World → RingState → History → World
+unswitched W state h = record { plant = W .plant; state = state; shown = W .shown; history = h }
+
 -- what stands when the orders of a start and of the calls after it have ended
 pub data Ended (c : Controller) (n : ℕ) (buffer : List ℕ) : Calls → World → Type 0 where
   started : {ph : Phases} {Q : PlantState} → isServed (c .start n buffer) ≡ true → decode n (c .start n buffer .buffer) ≡ some ph
       → Performed ph freshPlant Q
-      → Ended c n buffer nothing (record { plant = Q; ring = c .start n buffer .answer .ring; shown = c .start n buffer .answer .choices })
+      → Ended c n buffer nothing (switched Q (c .start n buffer .answer) noHistory)
   served : {calls : Calls} {W : World} (call : Call) {ph : Phases} {Q : PlantState} → Ended c n buffer calls W
-      → isServed (replyTo c (W .ring) call) ≡ true
-      → decode n (replyTo c (W .ring) call .buffer) ≡ some ph → Performed ph (afterWords (words call) (W .plant)) Q
-      → Ended c n buffer (calls then call)
-      (record { plant = Q; ring = replyTo c (W .ring) call .answer .ring; shown = replyTo c (W .ring) call .answer .choices })
+      → isServed (replyTo c (W .state) call) ≡ true
+      → decode n (replyTo c (W .state) call .buffer) ≡ some ph → Performed ph (afterWords (words call) (W .plant)) Q
+      → Ended c n buffer (calls then call) (switched Q (replyTo c (W .state) call .answer) (W .history))
   -- "A refused call changes nothing"; the record last given is what the call returned
-  refused : {calls : Calls} {W : World} (call : Call) → Ended c n buffer calls W → isServed (replyTo c (W .ring) call) ≡ false
-      → Ended c n buffer (calls then call) (record { plant = W .plant; ring = replyTo c (W .ring) call .answer .ring; shown = W .shown })
+  refused : {calls : Calls} {W : World} (call : Call) → Ended c n buffer calls W → isServed (replyTo c (W .state) call) ≡ false
+      → Ended c n buffer (calls then call) (unswitched W (replyTo c (W .state) call .answer .state) (W .history))
+  -- "they do nothing to the plant or to what is shown" (Note 5); history takes note of those that are served
+  booked : {calls : Calls} {W : World} (call : BookingCall) → Ended c n buffer calls W → isBooked (answerTo c (W .state) call) ≡ true
+      → Ended c n buffer (calls also call) (unswitched W (answerTo c (W .state) call .state) (noted call (W .history)))
+  not-booked : {calls : Calls} {W : World} (call : BookingCall) → Ended c n buffer calls W → isBooked (answerTo c (W .state) call) ≡ false
+      → Ended c n buffer (calls also call) (unswitched W (answerTo c (W .state) call .state) (W .history))
 
 -- "A halt may fall before the first stroke, after the last or between any two.": the plant at a moment of a served call, and
 -- the operations of the first phase that are left
@@ -237,7 +302,7 @@ pub data Interrupted (c : Controller) (n : ℕ) (buffer : List ℕ) (calls : Cal
   in-call : {before : Calls} {W : World} (call : Call) {ph : Phases} {rest : List Operation} {P : PlantState}
       → Begins (before then call) calls
       → Ended c n buffer before W
-      → isServed (replyTo c (W .ring) call) ≡ true → decode n (replyTo c (W .ring) call .buffer) ≡ some ph
+      → isServed (replyTo c (W .state) call) ≡ true → decode n (replyTo c (W .state) call .buffer) ≡ some ph
       → Moment ph (afterWords (words call) (W .plant)) rest P → Interrupted c n buffer calls P (excepted (words call) rest)
 
 -- ---- what is claimed
@@ -259,11 +324,40 @@ pub record BusShown (n : ℕ) (W : World) (b : ℕ) : Type 0 where
 
 -- "and the record gives the plant's health and orders"; parts above n are fit and off or open
 pub record RecordGiven (n : ℕ) (W : World) : Type 0 where
-  pub size : W .ring .n ≡ n
-  pub health : (p : Part) → InRing n p → healthOf (W .ring .health) p ≡ W .plant .health p
-  pub standing : (p : Part) → InRing n p → commandsOf (W .ring .commands) p ≡ W .plant .last p
-  pub health-above : (p : Part) → InRing largest p → n < number p → healthOf (W .ring .health) p ≡ 0
-  pub commands-above : (p : Part) → InRing largest p → n < number p → commandsOf (W .ring .commands) p ≡ false
+  pub size : W .state .ring .n ≡ n
+  pub health : (p : Part) → InRing n p → healthOf (W .state .ring .health) p ≡ W .plant .health p
+  pub standing : (p : Part) → InRing n p → commandsOf (W .state .ring .commands) p ≡ W .plant .last p
+  pub health-above : (p : Part) → InRing largest p → n < number p → healthOf (W .state .ring .health) p ≡ 0
+  pub commands-above : (p : Part) → InRing largest p → n < number p → commandsOf (W .state .ring .commands) p ≡ false
+
+-- what the plant says of a booking's bus
+abbrev pub feedOf : ℕ → PlantState → Booking → Feed
+feedOf n P b = busFeed n (P .health) (P .last) (index (b .bus))
+
+-- it is fed by the generator with number k, and no other
+abbrev pub fedBy : ℕ → Feed → Bool
+fedBy k feed.Dark = false
+fedBy k (feed.Fed g) = eqb g k
+fedBy k (feed.Clash g h) = false
+
+-- it is dark
+abbrev pub fedByNone : Feed → Bool
+fedByNone feed.Dark = true
+fedByNone (feed.Fed g) = false
+fedByNone (feed.Clash g h) = false
+
+-- what the record gives of bookings (Note 5), held against history and the plant; a figure's index is its generator's number less 1
+pub record LoadGiven (n : ℕ) (W : World) : Type 0 where
+  -- "The ring record holds the live bookings"
+  pub bookings : liveBookings (W .state .load) ≡ W .history .live
+  -- "it gives every generator's watts, .. equal to those of the live bookings on the buses it feeds"
+  pub watts : (g : ℕ) → g < n
+      → getD (W .state .load .watts) g 0 ≡ totalWatts (keep (λ b. fedBy (suc g) (feedOf n (W .plant) b)) (W .history .live))
+  pub watts-above : (g : ℕ) → n ≤ g → getD (W .state .load .watts) g 0 ≡ 0
+  -- "and the watts on dark buses"
+  pub dark-watts : W .state .load .«dark_watts» ≡ totalWatts (keep (λ b. fedByNone (feedOf n (W .plant) b)) (W .history .live))
+  -- "Over demand 3's list these sum to everything booked less everything cancelled."
+  pub sums : sum (W .state .load .watts) + W .state .load .«dark_watts» + W .history .cancelled ≡ W .history .booked
 
 -- the operation of a part: off or open, or on or closed
 abbrev pub operation : Bool → Part → Operation
@@ -271,7 +365,7 @@ operation c p = record { part = p; command = c }
 
 -- "A served call's choices and waves are those of document 01 for the plant's health and orders just before its strokes."; the second wave
 -- in the order of document 02, Note 4
-pub record AsChosen (n : ℕ) (P : PlantState) (reply : Reply) : Type 0 where
+pub record AsChosen (n : ℕ) (P : PlantState) (reply : StateReply) : Type 0 where
   pub choices-are : reply .answer .choices ≡ choices n (P .health)
   pub phases : Phases
   pub decodes : decode n (reply .buffer) ≡ some phases
@@ -330,14 +424,41 @@ pub data Meets (n : ℕ) (P : PlantState) (call : Call) : ℕ → Type 0 where
   bad-report : {k : ℕ} → count call ≤ 64 → FirstBad n (words call) k → Meets n P call k
   no-room : count call ≤ 64 → AllGood n (words call) → length (lent call) < sheetFor n (afterWords (words call) P) → Meets n P call 8
 
--- what is claimed of every call, by the refusals that meet it, the record that it gives where it is refused, and the buffer lent
-pub record Answered (Met : ℕ → Type 0) (kept : Ring) (buffer : List ℕ) (reply : Reply) : Type 0 where
+-- "a bus", of the ring
+abbrev pub OnBus : ℕ → Booking → Type 0
+OnBus n b = (1 ≤ b .bus) × (b .bus ≤ n)
+
+-- "1 to 100,000 watts"
+abbrev pub InRange : Booking → Type 0
+InRange b = (1 ≤ b .watts) × (b .watts ≤ 100000)
+
+-- a number is live, by history
+abbrev pub Live : History → ℕ → Type 0
+Live h v = (b : Booking) × (b ∈ h .live) × (b .number ≡ v)
+
+-- "Turned away, after 9 and 10, in this order: 12 for watts outside the range; 13 for a number already live when booking or not live when
+-- cancelling; 14 for a 65th booking." (Note 5): the refusal that meets a booking or a cancellation of the list; 9 meets none
+pub data BookingMeets (n : ℕ) (h : History) : BookingCall → ℕ → Type 0 where
+  no-bus : {b : Booking} → (OnBus n b → ⊥) → BookingMeets n h (book b) 10
+  no-range : {b : Booking} → OnBus n b → (InRange b → ⊥) → BookingMeets n h (book b) 12
+  is-live : {b : Booking} → OnBus n b → InRange b → Live h (b .number) → BookingMeets n h (book b) 13
+  no-place : {b : Booking} → OnBus n b → InRange b → (Live h (b .number) → ⊥) → 64 ≤ length (h .live) → BookingMeets n h (book b) 14
+  not-live : {v : ℕ} → (Live h v → ⊥) → BookingMeets n h (cancel v) 13
+
+-- what is claimed of every booking and cancellation, by the refusals that meet it and the record that it gives where it is refused
+pub record BookingAnswered (Met : ℕ → Type 0) (kept : RingState) (answer : BookingAnswer) : Type 0 where
+  pub only : (k : ℕ) → answer .outcome ≡ outcome.Refused k → Met k
+  pub always : (k : ℕ) → Met k → answer .outcome ≡ outcome.Refused k
+  pub record-kept : isBooked answer ≡ false → answer .state ≡ kept
+
+-- what is claimed of every call with orders, by the refusals that meet it, the record that it gives where it is refused, and the buffer lent
+pub record Answered (Met : ℕ → Type 0) (kept : RingState) (buffer : List ℕ) (reply : StateReply) : Type 0 where
   -- "a call is refused exactly when a numbered refusal meets it", with its number
   pub only : (k : ℕ) → reply .answer .outcome ≡ outcome.Refused k → Met k
   pub always : (k : ℕ) → Met k → reply .answer .outcome ≡ outcome.Refused k
   -- "the record as handed in and the buffer untouched", "The choices of a refused start or step .. are all dark"; "a refused call
   -- that they add is answered as a refused step" (document 02)
-  pub record-kept : isServed reply ≡ false → reply .answer .ring ≡ kept
+  pub record-kept : isServed reply ≡ false → reply .answer .state ≡ kept
   pub buffer-kept : isServed reply ≡ false → reply .buffer ≡ buffer
   pub choices-dark : isServed reply ≡ false → reply .answer .choices ≡ allDark
   -- "Bytes of the lent buffer behind the sheet keep their values."
@@ -351,21 +472,24 @@ pub record Holds (c : Controller) (n : ℕ) (buffer : List ℕ) (calls : Calls) 
   -- "Whenever a call's orders have ended", after every part of the list
   pub shown : {before : Calls} {W : World} → Begins before calls → Ended c n buffer before W → (b : ℕ) → b < n → BusShown n W b
   pub given : {before : Calls} {W : World} → Begins before calls → Ended c n buffer before W → RecordGiven n W
+  pub load-given : {before : Calls} {W : World} → Begins before calls → Ended c n buffer before W → LoadGiven n W
   -- the start's choices and waves, and each served call's
   pub start-chosen : AsChosen n freshPlant (c .start n buffer)
   pub chosen : {before : Calls} {W : World} (call : Call) → Begins (before then call) calls → Ended c n buffer before W
-      → isServed (replyTo c (W .ring) call) ≡ true → AsChosen n (afterWords (words call) (W .plant)) (replyTo c (W .ring) call)
+      → isServed (replyTo c (W .state) call) ≡ true → AsChosen n (afterWords (words call) (W .plant)) (replyTo c (W .state) call)
   -- "no bus is fed by two generators", wherever anyone halts the orders, but for the time excepted
   pub no-clash : {P : PlantState} → Interrupted c n buffer calls P false → (b g h : ℕ) → b < n
       → busFeed n (P .health) (P .last) b ≢ feed.Clash g h
   -- each call is served or refused as it must be
   pub answered : {before : Calls} {W : World} (call : Call) → Begins (before then call) calls → Ended c n buffer before W
-      → Answered (Meets n (W .plant) call) (W .ring) (lent call) (replyTo c (W .ring) call)
+      → Answered (Meets n (W .plant) call) (W .state) (lent call) (replyTo c (W .state) call)
+  pub booking-answered : {before : Calls} {W : World} (call : BookingCall) → Begins (before also call) calls → Ended c n buffer before W
+      → BookingAnswered (BookingMeets n (W .history) call) (W .state) (answerTo c (W .state) call)
 
 -- "For every ring size and every list of reports after a fresh start, refused ones included, each handed in with the record
 -- last given, this holds of the plant that document 01 sets beside the list."
 pub record Demand3 (c : Controller) : Type 0 where
   -- the start itself, for every n and every buffer; "A refused start has a record with n = 0 and every part fit and ordered off or open."
-  pub start-answered : (n : ℕ) (buffer : List ℕ) → Answered (StartMeets n (length buffer)) (blankRing 0) buffer (c .start n buffer)
-  -- "a served start .. then any number of steps, or none", scans among them
+  pub start-answered : (n : ℕ) (buffer : List ℕ) → Answered (StartMeets n (length buffer)) (unloaded (blankRing 0)) buffer (c .start n buffer)
+  -- "a served start .. then any number of steps, or none", scans, bookings and cancellations among them
   pub holds : (n : ℕ) (buffer : List ℕ) → isServed (c .start n buffer) ≡ true → (calls : Calls) → Holds c n buffer calls

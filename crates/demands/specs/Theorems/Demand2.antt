@@ -13,7 +13,7 @@ use Rattle.model.specs.Plant.{PartHealth, PartCommands, largest, InRing}
 use Rattle.model.specs.Priority.{Path, paths}
 use Rattle.model.specs.Choosing.{permitted, choose, chosen, plan, commands}
 use Rattle.model.specs.Sheet.{opening, closing}
-use Rattle.model.specs.Answers.{Reply}
+use Rattle.model.specs.States.{StateReply}
 use Rattle.model.specs.Laws.Tests.{contra, dec}
 use Rattle.model.specs.Laws.Lists.{all-cons, map-in, rising-keep, rising-map}
 use Rattle.model.specs.Laws.Choosing.{choices-at}
@@ -105,7 +105,7 @@ module _ (n : ℕ) (P : PlantState) where
 
 -- ---- what a served call's answer is
 
-serves : {n : ℕ} {P : PlantState} {reply : Reply} → n ≤ largest → Replied n P reply → Serves n P reply
+serves : {n : ℕ} {P : PlantState} {reply : StateReply} → n ≤ largest → Replied n P reply → Serves n P reply
 unfolding plan choose phasesOf
 serves {n} {P} small a = record {
   path = plan n (P .health);

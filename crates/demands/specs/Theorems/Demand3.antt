@@ -1,43 +1,35 @@
--- Demand 3 holds of the controller whose answers are the definitions that the contracts of start, step and scan cite.
+-- Demand 3 holds of the controller whose answers are the definitions that the contracts of start, step, scan, book and cancel cite.
 use mathlib.Core.Path.{_≡_, refl, sym, _∙_, ap}
 use mathlib.Core.Bool.{Bool, true, false, cond}
 use mathlib.Core.Logic.{_≢_, _⊎_, inl, inr}
 use mathlib.Core.List.{List, [], _∷_, _++_, map, append-nil, List·Permᴰ}
 use mathlib.Core.Option.{Option, none, some}
-use Prim.Native.Nat.{ℕ, _≤_, _<_}
+use Prim.Native.Nat.{ℕ, suc, _≤_, _<_}
 use native.Mathlib.Omega.{arith}
+use lib.Dec.{eqb}
+use lib.ListN.{getD, List·getD-eq-default}
+use borrow.Author.Tests.{ne-eqb}
 use Rattle.model.specs.declared.Part.{Part}
-use Rattle.model.specs.declared.Part.the-variants.{Generator, GeneratorBreaker, BusBreaker}
 use Rattle.model.specs.declared.Word.{Word}
 use Rattle.model.specs.declared.Word.the-variants.{Fit, StuckOff, StuckOpen, StuckClosed}
 use Rattle.model.specs.declared.Report.{Report}
-use Rattle.model.specs.declared.Ring.{Ring}
+use Rattle.model.specs.declared.Booking.{Booking}
 use Rattle.model.specs.declared.Choice.the-variants as choice
 use Rattle.model.specs.declared.Feed.the-variants as feed
-use Rattle.model.specs.Lists.{anyOf}
-use Rattle.model.specs.Values.{number, samePart, wordNumber, choiceSource}
-use Rattle.model.specs.Plant.{
-  PartHealth,
-  PartCommands,
-  smallest,
-  largest,
-  generatorBreaker,
-  busBreaker,
-  stuckClosed,
-  healthOfKind,
-  busFeed,
-  InRing,
-  Reaches,
-}
+use Rattle.model.specs.Lists.{anyOf, _∈_}
+use Rattle.model.specs.Values.{index, samePart, choiceSource}
+use Rattle.model.specs.Plant.{PartHealth, PartCommands, smallest, largest, generatorBreaker, busBreaker, stuckClosed, busFeed, Reaches}
 use Rattle.model.specs.Priority.{Path}
 use Rattle.model.specs.Choosing.{commands, choices, choiceOf, plan}
 use Rattle.model.specs.Sheet.{opening, closing}
-use Rattle.model.specs.Reports.{reported, healthOf, told}
-use Rattle.model.specs.Answers.{Reply, refusedAnswer, refusedReply, startReply}
-use Rattle.model.specs.Scans.{toldAll}
-use Rattle.model.specs.Laws.Tests.{contra, dec, or-none}
-use Rattle.model.specs.Laws.Choosing.{choice-source, choice-dark, choices-at}
-use Rattle.model.specs.Laws.Parts.{same-eq, health-places}
+use Rattle.model.specs.Reports.{places, blankRing}
+use Rattle.model.specs.Bookings.{totalWatts, bookingSource, wattsOf}
+use Rattle.model.specs.States.{StateReply, unloaded, toldState, stateStart}
+use Rattle.model.specs.Laws.Tests.{contra, dec, dec-lt, or-none}
+use Rattle.model.specs.Laws.Lists.{keep-ext, keep-none}
+use Rattle.model.specs.Laws.Choosing.{choice-source, choice-dark, choices-at, Inside}
+use Rattle.model.specs.Laws.Parts.{index-suc, places-length, places-at}
+use Rattle.theory.specs.Proofs.Choosing.{choices-inside}
 use Rattle.theory.specs.Theorems.Completeness.{de-energized-exactly}
 use Rattle.theory.specs.Theorems.Feeds.{Single, no-clash, energized-fed, de-energized-fed, reaches-usable, usable-reaches}
 use Rattle.theory.specs.Theorems.Interruption.{Fewer, NoneStuckClosed, opening-single, closing-single}
@@ -57,16 +49,20 @@ use Rattle.demands.specs.Statements.Demand3.{
   Calls,
   nothing,
   _then_,
+  _also_,
   replyTo,
+  answerTo,
   words,
   isServed,
+  isBooked,
   World,
-  Performed,
   performed,
   Ended,
   started,
   served,
   refused,
+  booked,
+  not-booked,
   Moment,
   in-first,
   in-second,
@@ -80,13 +76,12 @@ use Rattle.demands.specs.Statements.Demand3.{
   shownAt,
   BusShown,
   RecordGiven,
+  feedOf,
+  fedBy,
+  fedByNone,
+  LoadGiven,
   AsChosen,
-  wordRefusal,
   lent,
-  Good,
-  AllGood,
-  no-reports,
-  good-and,
   Meets,
   Answered,
   Holds,
@@ -97,10 +92,7 @@ use Rattle.demands.specs.Proofs.Steady.{
   phasesOf,
   Replied,
   Steady,
-  fit-of-kind,
   served-replied,
-  served-decodes,
-  transition-steady,
   some-of-prefix,
   first-fewer,
   first-done,
@@ -108,107 +100,9 @@ use Rattle.demands.specs.Proofs.Steady.{
 }
 use Rattle.demands.specs.Controller.{controller}
 use Rattle.demands.specs.Proofs.Answering as answering
-use Rattle.demands.specs.Proofs.Answering.{
-  start-served,
-  start-fine,
-  start-answered,
-  start-ready,
-  blank-fit,
-  call-ready,
-  served-fine,
-  call-served,
-  call-refused,
-}
-
--- ---- after every call all is steady
-
--- a word that is not refused brings about a health of its part's kind
-word-of-kind : (p : Part) (w : Word) → wordRefusal p w ≡ 0 → healthOfKind p (wordNumber w) ≡ true
-unfolding wordRefusal healthOfKind
-word-of-kind (Generator k) Fit e = refl
-word-of-kind (Generator k) StuckOff e = refl
-word-of-kind (Generator k) StuckOpen e = absurd (omega arith)
-word-of-kind (Generator k) StuckClosed e = absurd (omega arith)
-word-of-kind (GeneratorBreaker k) Fit e = refl
-word-of-kind (GeneratorBreaker k) StuckOff e = absurd (omega arith)
-word-of-kind (GeneratorBreaker k) StuckOpen e = refl
-word-of-kind (GeneratorBreaker k) StuckClosed e = refl
-word-of-kind (BusBreaker k) Fit e = refl
-word-of-kind (BusBreaker k) StuckOff e = absurd (omega arith)
-word-of-kind (BusBreaker k) StuckOpen e = refl
-word-of-kind (BusBreaker k) StuckClosed e = refl
-
--- a ring of n whose parts have healths of their kinds; above n they are fit
-record Kinds (n : ℕ) (ring : Ring) : Type 0 where
-  inside : (p : Part) → InRing n p → healthOfKind p (healthOf (ring .health) p) ≡ true
-  above : (p : Part) → InRing largest p → n < number p → healthOf (ring .health) p ≡ 0
-
-steady-kinds : {n : ℕ} {W : World} → Steady n W → Kinds n (W .ring)
-steady-kinds s = record { inside = λ p i. rw (s .health p i) (s .kinds p i); above = λ p i l. s .above p i l .0 }
-
--- a report that is not refused
-module _ {n : ℕ} {ring : Ring} (small : n ≤ largest) (k : Kinds n ring) (r : Report) (good : Good n r) where
-  told-is : (p : Part) → InRing largest p → healthOf (told ring r .health) p ≡ reported (healthOf (ring .health)) r p
-  unfolding told
-  told-is p i = health-places (reported (healthOf (ring .health)) r) p i
-
-  told-inside : (p : Part) → InRing n p → healthOfKind p (healthOf (told ring r .health) p) ≡ true
-  unfolding reported
-  told-inside p i = rw (told-is p (i .0, omega (arith, i .1))) (go (dec (samePart p (r .part))))
-    where
-      go : (samePart p (r .part) ≡ true) ⊎ (samePart p (r .part) ≡ false)
-          → healthOfKind p (cond (samePart p (r .part)) (wordNumber (r .word)) (healthOf (ring .health) p)) ≡ true
-      go (inl e) = rw (e, same-eq p (r .part) e) (word-of-kind (r .part) (r .word) (good .word))
-      go (inr e) = rw e (k .inside p i)
-
-  told-above : (p : Part) → InRing largest p → n < number p → healthOf (told ring r .health) p ≡ 0
-  unfolding reported
-  told-above p i l = told-is p i ∙ go (dec (samePart p (r .part)))
-    where
-      go : (samePart p (r .part) ≡ true) ⊎ (samePart p (r .part) ≡ false)
-          → cond (samePart p (r .part)) (wordNumber (r .word)) (healthOf (ring .health) p) ≡ 0
-      go (inl e) = absurd (omega (arith, ap number (same-eq p (r .part) e), good .inside .1))
-      go (inr e) = rw e (k .above p i l)
-
-  told-kinds : Kinds n (told ring r)
-  told-kinds = record { inside = told-inside; above = told-above }
-
--- .. and several
-all-kinds : {n : ℕ} {ring : Ring} {rs : List Report} → n ≤ largest → Kinds n ring → AllGood n rs → Kinds n (toldAll ring rs)
-unfolding toldAll
-all-kinds small k no-reports = k
-all-kinds small k (good-and {r = r} g a) = all-kinds small (told-kinds small k r g) a
-
--- what a buffer decodes to is one thing
-pub same-phases : {o : Option Phases} {x y : Phases} → o ≡ some x → o ≡ some y → x ≡ y
-same-phases {o} {x} {y} p q = cc
-
-module _ (n : ℕ) (buffer : List ℕ) (big : smallest ≤ n) (small : n ≤ largest) where
-  pub start-steady : {ph : Phases} {Q : PlantState} → isServed (startReply n buffer) ≡ true
-      → decode n (startReply n buffer .buffer) ≡ some ph → Performed ph freshPlant Q
-      → Steady n (record { plant = Q; ring = startReply n buffer .answer .ring; shown = startReply n buffer .answer .choices })
-  start-steady {ph} {Q} e d q = rw (start-served n buffer e)
-      (transition-steady small (start-ready n small) (λ p i. rw (blank-fit n p (i .0, omega (arith, i .1))) (fit-of-kind p))
-      (λ p i l. blank-fit n p i) buffer
-      (rw (same-phases (rw (start-served n buffer e) at d) (served-decodes small (start-ready n small) buffer)) at q))
-
-  pub call-steady : {W : World} {ph : Phases} {Q : PlantState} → Steady n W → (call : Call)
-      → isServed (replyTo controller (W .ring) call) ≡ true
-      → decode n (replyTo controller (W .ring) call .buffer) ≡ some ph → Performed ph (afterWords (words call) (W .plant)) Q
-      → let a = replyTo controller (W .ring) call .answer in
-      Steady n (record { plant = Q; ring = a .ring; shown = a .choices })
-  call-steady {W} {ph} {Q} s call e d q =
-      let k = all-kinds small (steady-kinds s) (served-fine big small s call e .good) in
-      let z = call-served (W .ring) call e in
-      rw z
-      (transition-steady small (call-ready small s call) (k .inside) (k .above) (lent call)
-      (rw (same-phases (rw z at d) (served-decodes small (call-ready small s call) (lent call))) at q))
-
-  pub ended-steady : {calls : Calls} {W : World} → Ended controller n buffer calls W → Steady n W
-  unfolding refusedReply refusedAnswer
-  ended-steady (started e d q) = start-steady e d q
-  ended-steady (served call h e d q) = call-steady (ended-steady h) call e d q
-  ended-steady (refused {W = W} call h e) = rw (call-refused (W .ring) call e) (ended-steady h)
+use Rattle.demands.specs.Proofs.Answering.{start-served, start-fine, start-answered, start-ready, call-ready, call-served}
+use Rattle.demands.specs.Proofs.Loads.{figures-sum}
+use Rattle.demands.specs.Proofs.Standing.{same-phases, Stands, stands-good, booking-answered, ended-stands}
 
 -- ---- what is shown
 
@@ -254,8 +148,84 @@ as-given s = record {
   commands-above = λ p i l. s .above p i l .1;
 }
 
+-- ---- what the record gives of bookings
+
+module _ {n : ℕ} {W : World} (small : n ≤ largest) (s : Stands n W) where
+  -- a live booking's bus is one of the ring
+  on-ring : (b : Booking) → b ∈ W .history .live → index (b .bus) < n
+  on-ring b m =
+      let k = s .loaded .bookable b m in
+      omega (arith, index-suc (b .bus) (omega (arith, k .low)), k .high)
+
+  -- what is shown there is dark, or names a generator of the ring
+  inside : (b : Booking) → b ∈ W .history .live → Inside n (shownAt W (index (b .bus)))
+  inside b m = rw (s .steady .shown) (choices-inside n (W .plant .health) small (index (b .bus)) (on-ring b m))
+
+  -- .. and it is what the plant says
+  fed-dark : (b : Booking) → b ∈ W .history .live → shownAt W (index (b .bus)) ≡ choice.Dark → feedOf n (W .plant) b ≡ feed.Dark
+  fed-dark b m e = bus-shown small (s .steady) (index (b .bus)) (on-ring b m) .de-energized e
+
+  fed-lit : (b : Booking) → b ∈ W .history .live → 0 < bookingSource (W .shown) b
+      → feedOf n (W .plant) b ≡ feed.Fed (bookingSource (W .shown) b)
+  fed-lit b m l =
+      bus-shown small (s .steady) (index (b .bus)) (on-ring b m) .energized (λ e. omega (arith, ap choiceSource e))
+
+  -- a generator feeds it by the plant where it does by what is shown
+  fed-shown : (g : ℕ) (b : Booking) → b ∈ W .history .live
+      → eqb (bookingSource (W .shown) b) (suc g) ≡ fedBy (suc g) (feedOf n (W .plant) b)
+  fed-shown g b m = go (inside b m)
+    where
+      go : Inside n (shownAt W (index (b .bus))) → eqb (bookingSource (W .shown) b) (suc g) ≡ fedBy (suc g) (feedOf n (W .plant) b)
+      go (inl e) = rw (fed-dark b m e, e) (ne-eqb 0 (suc g) (λ z. omega arith))
+      go (inr i) = rw (fed-lit b m (i .0)) refl
+
+  -- no generator does where it is dark
+  unfed-shown : (b : Booking) → b ∈ W .history .live → eqb (bookingSource (W .shown) b) 0 ≡ fedByNone (feedOf n (W .plant) b)
+  unfed-shown b m = go (inside b m)
+    where
+      go : Inside n (shownAt W (index (b .bus))) → eqb (bookingSource (W .shown) b) 0 ≡ fedByNone (feedOf n (W .plant) b)
+      go (inl e) = rw (fed-dark b m e, e) refl
+      go (inr i) = rw (fed-lit b m (i .0)) (ne-eqb (bookingSource (W .shown) b) 0 (λ z. omega (arith, i .0)))
+
+  -- a figure of the record
+  figure : (g : ℕ) → g < largest → getD (W .state .load .watts) g 0 ≡ wattsOf (W .shown) (W .history .live) (suc g)
+  figure g h = rw (s .loaded .watts) (places-at (λ k. wattsOf (W .shown) (W .history .live) (suc k)) g 0 h)
+
+  -- a generator above n feeds no bus
+  none-above : (g : ℕ) → n ≤ g → wattsOf (W .shown) (W .history .live) (suc g) ≡ 0
+  unfolding wattsOf totalWatts
+  none-above g h =
+      ap totalWatts (keep-none (λ b. eqb (bookingSource (W .shown) b) (suc g)) (W .history .live) (λ b m. other b (inside b m)))
+    where
+      other : (b : Booking) → Inside n (shownAt W (index (b .bus))) → eqb (bookingSource (W .shown) b) (suc g) ≡ false
+      other b (inl e) = rw e (ne-eqb 0 (suc g) (λ z. omega arith))
+      other b (inr i) = ne-eqb (bookingSource (W .shown) b) (suc g) (λ z. omega (arith, i .1))
+
+  load-given : LoadGiven n W
+  unfolding wattsOf
+  load-given = record {
+    bookings = s .loaded .live;
+    watts = λ g h. figure g (omega arith)
+        ∙ ap totalWatts (keep-ext (λ b. eqb (bookingSource (W .shown) b) (suc g)) (λ b. fedBy (suc g) (feedOf n (W .plant) b)) (W .history .live) (fed-shown g));
+    watts-above = λ g h. above g h (dec-lt g largest);
+    dark-watts = s .loaded .dark
+        ∙ ap totalWatts (keep-ext (λ b. eqb (bookingSource (W .shown) b) 0) (λ b. fedByNone (feedOf n (W .plant) b)) (W .history .live) unfed-shown);
+    sums = rw (s .loaded .watts, s .loaded .dark)
+        (omega (arith, figures-sum (W .shown) (W .history .live) (λ b m. at-most b (inside b m)), s .loaded .balance));
+  }
+    where
+      above : (g : ℕ) → n ≤ g → (g < largest) ⊎ (largest ≤ g) → getD (W .state .load .watts) g 0 ≡ 0
+      above g h (inl l) = figure g l ∙ none-above g h
+      above g h (inr l) = rw (s .loaded .watts)
+          (List·getD-eq-default (places (λ k. wattsOf (W .shown) (W .history .live) (suc k))) 0
+          (omega (arith, places-length (λ k. wattsOf (W .shown) (W .history .live) (suc k)))))
+
+      at-most : (b : Booking) → Inside n (shownAt W (index (b .bus))) → bookingSource (W .shown) b ≤ largest
+      at-most b (inl e) = rw e (omega arith)
+      at-most b (inr i) = omega (arith, i .1)
+
 -- a reply that is document 01's has its choices and its phases
-as-chosen : {n : ℕ} {P : PlantState} {reply : Reply} → Replied n P reply → AsChosen n P reply
+as-chosen : {n : ℕ} {P : PlantState} {reply : StateReply} → Replied n P reply → AsChosen n P reply
 unfolding phasesOf
 as-chosen {n} {P} a = record {
   choices-are = a .chosen;
@@ -362,43 +332,57 @@ module _ (n : ℕ) (P₀ : PlantState) (rs : List Report) (stands : Fewer n (P�
 
 -- ---- demand 3
 
-module _ (n : ℕ) (buffer : List ℕ) (begun : isServed (startReply n buffer) ≡ true) where
+module _ (n : ℕ) (buffer : List ℕ) (begun : isServed (stateStart n buffer) ≡ true) where
   big : smallest ≤ n
   big = start-fine n buffer begun .big
 
   small : n ≤ largest
   small = start-fine n buffer begun .small
 
-  pub start-replied : Replied n freshPlant (startReply n buffer)
-  start-replied = rw (start-served n buffer begun) (served-replied small (start-ready n small) buffer)
+  pub start-replied : Replied n freshPlant (stateStart n buffer)
+  unfolding unloaded
+  start-replied = rw (start-served n buffer begun) (served-replied (unloaded (blankRing n)) small (start-ready n small) buffer)
+
+  stands : {calls : Calls} {W : World} → Ended controller n buffer calls W → Stands n W
+  stands h = ended-stands big small h
 
   steady : {calls : Calls} {W : World} → Ended controller n buffer calls W → Steady n W
-  steady h = ended-steady n buffer big small h
+  steady h = stands h .steady
 
   pub call-replied : {before : Calls} {W : World} (call : Call) → Ended controller n buffer before W
-      → isServed (replyTo controller (W .ring) call) ≡ true
-      → Replied n (afterWords (words call) (W .plant)) (replyTo controller (W .ring) call)
+      → isServed (replyTo controller (W .state) call) ≡ true
+      → Replied n (afterWords (words call) (W .plant)) (replyTo controller (W .state) call)
   call-replied {W = W} call h e =
-      rw (call-served (W .ring) call e) (served-replied small (call-ready small (steady h) call) (lent call))
+      rw (call-served (W .state) call e)
+      (served-replied (toldState (W .state) (words call)) small (call-ready small (steady h) call) (lent call))
 
   ends : (calls : Calls) → (W : World) × Ended controller n buffer calls W
   ends nothing = (_, started begun (start-replied .decoded) (performed (sheet-order _) (sheet-order _)))
   ends (calls then call) = go (ends calls)
     where
       go : (W : World) × Ended controller n buffer calls W → (W : World) × Ended controller n buffer (calls then call) W
-      go t = by (dec (isServed (replyTo controller (t .0 .ring) call)))
+      go t = by (dec (isServed (replyTo controller (t .0 .state) call)))
         where
-          by : (isServed (replyTo controller (t .0 .ring) call) ≡ true) ⊎ (isServed (replyTo controller (t .0 .ring) call) ≡ false)
+          by : (isServed (replyTo controller (t .0 .state) call) ≡ true) ⊎ (isServed (replyTo controller (t .0 .state) call) ≡ false)
               → (W : World) × Ended controller n buffer (calls then call) W
           by (inl e) = (_, served call (t .1) e (call-replied call (t .1) e .decoded) (performed (sheet-order _) (sheet-order _)))
           by (inr e) = (_, refused call (t .1) e)
+  ends (calls also call) = go (ends calls)
+    where
+      go : (W : World) × Ended controller n buffer calls W → (W : World) × Ended controller n buffer (calls also call) W
+      go t = by (dec (isBooked (answerTo controller (t .0 .state) call)))
+        where
+          by : (isBooked (answerTo controller (t .0 .state) call) ≡ true) ⊎ (isBooked (answerTo controller (t .0 .state) call) ≡ false)
+              → (W : World) × Ended controller n buffer (calls also call) W
+          by (inl e) = (_, booked call (t .1) e)
+          by (inr e) = (_, not-booked call (t .1) e)
 
   -- what stands between calls is planned
   as-planned : {calls : Calls} {W : World} → Ended controller n buffer calls W → Fewer n (W .plant .last) (commands n (W .plant .health))
   as-planned h p i c = sym (steady h .planned p i) ∙ c
 
   -- a moment of a call that was told the words rs, in a plant P₀ that was as planned
-  call-free : (P₀ : PlantState) {P : PlantState} (rs : List Report) (reply : Reply) {ph : Phases} {rest : List Operation}
+  call-free : (P₀ : PlantState) {P : PlantState} (rs : List Report) (reply : StateReply) {ph : Phases} {rest : List Operation}
       → Fewer n (P₀ .last) (commands n (P₀ .health))
       → Replied n (afterWords rs P₀) reply → decode n (reply .buffer) ≡ some ph → Moment ph (afterWords rs P₀) rest P
       → excepted rs rest ≡ false
@@ -407,21 +391,21 @@ module _ (n : ℕ) (buffer : List ℕ) (begun : isServed (startReply n buffer) �
       moment-single n P₀ rs stands (rw (same-phases d (replied .decoded)) at m) (unless rs rest u) b hb
 
   pub call-answered : {before : Calls} {W : World} (call : Call) → Ended controller n buffer before W
-      → Answered (Meets n (W .plant) call) (W .ring) (lent call) (replyTo controller (W .ring) call)
-  call-answered call h = answering.call-answered big small (steady h) call
+      → Answered (Meets n (W .plant) call) (W .state) (lent call) (replyTo controller (W .state) call)
+  call-answered call h = answering.call-answered small (steady h) (stands-good big small (stands h)) call
 
   in-call-free : (W : World) {before : Calls} {P : PlantState} (call : Call) {ph : Phases} {rest : List Operation}
       → Ended controller n buffer before W
-      → isServed (replyTo controller (W .ring) call) ≡ true → decode n (replyTo controller (W .ring) call .buffer) ≡ some ph
+      → isServed (replyTo controller (W .state) call) ≡ true → decode n (replyTo controller (W .state) call .buffer) ≡ some ph
       → Moment ph (afterWords (words call) (W .plant)) rest P → excepted (words call) rest ≡ false → (b : ℕ) → b < n
       → Single n (P .health) (P .last) b
   in-call-free W call h e d m u =
-      call-free (W .plant) (words call) (replyTo controller (W .ring) call) (as-planned h) (call-replied call h e) d m u
+      call-free (W .plant) (words call) (replyTo controller (W .state) call) (as-planned h) (call-replied call h e) d m u
 
   clash-free : {calls : Calls} {P : PlantState} {t : Bool} → Interrupted controller n buffer calls P t → t ≡ false → (b : ℕ) → b < n
       → Single n (P .health) (P .last) b
   unfolding afterWords
-  clash-free (in-start e d m) u = call-free freshPlant [] (startReply n buffer) (λ p i c. contra c refl) start-replied d m u
+  clash-free (in-start e d m) u = call-free freshPlant [] (stateStart n buffer) (λ p i c. contra c refl) start-replied d m u
   clash-free (between {W = W} i h) u = closing-single n (W .plant .health) (W .plant .last) (as-planned h)
   clash-free (in-call {W = W} call i h e d m) u = in-call-free W call h e d m u
 
@@ -430,10 +414,12 @@ module _ (n : ℕ) (buffer : List ℕ) (begun : isServed (startReply n buffer) �
     ends = ends calls;
     shown = λ i h b hb. bus-shown small (steady h) b hb;
     given = λ i h. as-given (steady h);
+    load-given = λ i h. load-given small (stands h);
     start-chosen = as-chosen start-replied;
     chosen = λ call i h e. as-chosen (call-replied call h e);
     no-clash = λ {P} m b g h hb. no-clash n (P .health) (P .last) b (clash-free m refl b hb) g h;
     answered = λ call i h. call-answered call h;
+    booking-answered = λ call i h. booking-answered big small (stands h) call;
   }
 
 pub demand3 : Demand3 controller

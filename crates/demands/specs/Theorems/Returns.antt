@@ -16,18 +16,33 @@ use Rattle.model.specs.declared.Word.{Word}
 use Rattle.model.specs.declared.Word.the-variants.{Fit}
 use Rattle.model.specs.declared.Report.{Report}
 use Rattle.model.specs.declared.Ring.{Ring}
-use Rattle.model.specs.declared.RingAnswer.{RingAnswer}
+use Rattle.model.specs.declared.RingState.{RingState}
+use Rattle.model.specs.declared.StateAnswer.{StateAnswer}
 use Rattle.model.specs.declared.Outcome.the-variants.{Served}
 use Rattle.model.specs.declared.Choice.the-variants.{Dark}
 use Rattle.model.specs.Lists.{anyOf, _∈_}
 use Rattle.model.specs.Values.{samePart, wordNumber}
-use Rattle.model.specs.Plant.{PartHealth, largest, generator, generatorBreaker, busBreaker, fitGenerator, stuckOpen, stuckClosed, closed, running, InRing, Reaches}
+use Rattle.model.specs.Plant.{
+  PartHealth,
+  largest,
+  generator,
+  generatorBreaker,
+  busBreaker,
+  fitGenerator,
+  stuckOpen,
+  stuckClosed,
+  closed,
+  running,
+  InRing,
+  Reaches,
+}
 use Rattle.model.specs.Choosing.{commands}
 use Rattle.model.specs.Sheet.{written}
-use Rattle.model.specs.Reports.{reported, healthOf, commandsOf, healthPlaces, told, planned, withPlan}
-use Rattle.model.specs.Refusals.{badRecord, nextSheet}
-use Rattle.model.specs.Answers.{Reply, servedAnswer, servedReply, stepReply}
+use Rattle.model.specs.Reports.{reported, healthOf, commandsOf, healthPlaces, told, planned, calledFor, withPlan}
+use Rattle.model.specs.Refusals.{nextSheet}
 use Rattle.model.specs.Scans.{toldAll}
+use Rattle.model.specs.Bookings.{withFigures}
+use Rattle.model.specs.States.{toldState, reckoned, badRecord, StateReply, servedState, servedBy, stateStep}
 use Rattle.model.specs.Laws.Tests.{and-right, and-intro, or-left, or-none, dec}
 use Rattle.model.specs.Laws.Parts.{at-index, same-eq, health-places}
 use Rattle.model.specs.Laws.Refusals.{good-size}
@@ -56,12 +71,15 @@ use Rattle.demands.specs.Statements.Demand3.{
   lent,
   isServed,
   World,
+  switched,
   Performed,
   performed,
   Ended,
   started,
   served,
   refused,
+  booked,
+  not-booked,
   whole,
   isStuckClosed,
   shownAt,
@@ -75,12 +93,12 @@ use Rattle.demands.specs.Statements.Demand3.{
 }
 use Rattle.demands.specs.Statements.Returns.{Returns, none-returns, returns, meanwhile, ByOperationAlone}
 use Rattle.demands.specs.Statements.Records.{Arrays}
-use Rattle.demands.specs.Statements.Scans.{calledFor}
 use Rattle.demands.specs.Controller.{controller}
 use Rattle.demands.specs.Proofs.Operations.{perform-health, any-order}
 use Rattle.demands.specs.Proofs.Steady.{both-done, sheet-is}
-use Rattle.demands.specs.Proofs.Answering.{fullRoom, CallFine, call-ready, fine-served, call-served}
-use Rattle.demands.specs.Theorems.Demand3.{same-phases, words-last, not-closed}
+use Rattle.demands.specs.Proofs.Answering.{fullRoom, CallFine, call-ready, ring-good, fine-served, call-served}
+use Rattle.demands.specs.Proofs.Standing.{same-phases}
+use Rattle.demands.specs.Theorems.Demand3.{words-last, not-closed}
 use Rattle.demands.specs.Theorems.Records.{health-is, served-step, plan-kept, good-steady, call-good}
 use Rattle.demands.specs.Theorems.Scans.{still}
 
@@ -91,7 +109,7 @@ pub judged-after : {ph : Phases} {P Q : PlantState} → Performed ph P Q → Q .
 judged-after {P = P} (performed {xs = xs} {ys = ys} ax ay) = perform-health ys _ ∙ perform-health xs P
 
 -- the orders of a call that is document 01's for a plant leave the commands of its plan
-performed-planned : {n : ℕ} {P Q : PlantState} {ph : Phases} {reply : Reply} → AsChosen n P reply → decode n (reply .buffer) ≡ some ph
+performed-planned : {n : ℕ} {P Q : PlantState} {ph : Phases} {reply : StateReply} → AsChosen n P reply → decode n (reply .buffer) ≡ some ph
     → Performed ph P Q → (p : Part) → InRing n p → Q .last p ≡ commands n (Q .health) p
 performed-planned {n} {P} a d (performed {xs = xs} {ys = ys} ax ay) p i =
     let z = same-phases d (a .decodes) in
@@ -107,13 +125,14 @@ module _ {c : Controller} (meets : Demand3 c) (n : ℕ) (buffer : List ℕ) (beg
   ended-planned {calls} (served call h e d q) p i =
       performed-planned (meets .holds n buffer begun calls .chosen call whole h e) d q p i
   ended-planned (refused call h e) p i = ended-planned h p i
+  ended-planned (booked call h e) p i = ended-planned h p i
+  ended-planned (not-booked call h e) p i = ended-planned h p i
 
   -- "A dark bus is judged by the generators fit after the latest word.": when the orders of a served call have ended
   pub dark-after-words : {before : Calls} {W : World} (call : Call) {ph : Phases} {Q : PlantState} → Ended c n buffer before W
-      → isServed (replyTo c (W .ring) call) ≡ true → decode n (replyTo c (W .ring) call .buffer) ≡ some ph
+      → isServed (replyTo c (W .state) call) ≡ true → decode n (replyTo c (W .state) call .buffer) ≡ some ph
       → Performed ph (afterWords (words call) (W .plant)) Q → (b : ℕ) → b < n
-      → let a = replyTo c (W .ring) call .answer in
-      shownAt (record { plant = Q; ring = a .ring; shown = a .choices }) b ≡ Dark
+      → shownAt (switched Q (replyTo c (W .state) call .answer) (W .history)) b ≡ Dark
       ↔ ((g : ℕ) → Reaches n (afterWords (words call) (W .plant) .health) b g → ⊥)
   dark-after-words {before} call h e d q b hb =
       let s = meets .holds n buffer begun (before then call) .shown whole (served call h e d q) b hb in
@@ -244,16 +263,19 @@ ended-by-operation meets n buffer begun {W = W} h = by-operation n (W .plant) (e
 
 -- ---- "The last word decides; one that repeats the present health is accepted."
 
--- a good record, arrays of 20 places
-module _ (ring : Ring) (arrays : Arrays ring) (good : badRecord ring ≡ false) where
+-- a good record, arrays of 20 and 64 places
+module _ (state : RingState) (arrays : Arrays state) (good : badRecord state ≡ false) where
+  abbrev ring : Ring
+  ring = state .ring
+
   abbrev H : PartHealth
   H = healthOf (ring .health)
 
-  -- the answer of a call that leaves the ring as it is
-  abbrev as-it-was : RingAnswer
-  as-it-was = record { outcome = Served; ring = ring; choices = calledFor ring }
+  -- the answer of a call that leaves the record as it is
+  abbrev as-it-was : StateAnswer
+  as-it-was = record { outcome = Served; state = state; choices = calledFor ring }
 
-  -- a record that is told what it holds is the same
+  -- a ring that is told what it holds is the same
   told-same : (r : Report) → wordNumber (r .word) ≡ H (r .part) → told ring r ≡ ring
   unfolding told reported
   told-same r e = λ i. record { n = ring .n; health = sym same i; commands = ring .commands }
@@ -264,7 +286,7 @@ module _ (ring : Ring) (arrays : Arrays ring) (good : badRecord ring ≡ false) 
       at p (inr t) = rw t
 
       same : ring .health ≡ healthPlaces (reported H r)
-      same = health-is ring arrays (reported H r) (λ p i. at p (dec (samePart p (r .part))))
+      same = health-is state arrays (reported H r) (λ p i. at p (dec (samePart p (r .part))))
 
   told-all-same : (rs : List Report) → ((r : Report) → r ∈ rs → wordNumber (r .word) ≡ H (r .part)) → toldAll ring rs ≡ ring
   unfolding toldAll
@@ -275,21 +297,22 @@ module _ (ring : Ring) (arrays : Arrays ring) (good : badRecord ring ≡ false) 
   -- a step or a scan whose words repeat the present health: the very record, the choices it calls for, two empty waves
   pub words-repeated : (call : Call) → count call ≤ 64 → AllGood (ring .n) (words call)
       → ((r : Report) → r ∈ words call → wordNumber (r .word) ≡ H (r .part)) → 2 ≤ length (lent call)
-      → replyTo controller ring call ≡ record { answer = as-it-was; buffer = written (0 ∷ 0 ∷ []) (lent call) }
-  unfolding servedReply servedAnswer
+      → replyTo controller state call ≡ record { answer = as-it-was; buffer = written (0 ∷ 0 ∷ []) (lent call) }
+  unfolding servedState toldState
   words-repeated call few goods same enough =
-      let size = good-size ring good in
-      let steady = good-steady ring good in
-      let length-is = ap length (sheet-is (size .1) (call-ready (size .1) steady call)) in
-      let two : length (nextSheet (toldAll ring (words call))) ≡ 2 = rw (told-all-same (words call) same, still ring good) in
+      let right = ring-good state good in
+      let small = good-size ring right .1 in
+      let steady = good-steady state good in
+      let length-is = ap length (sheet-is small (call-ready small steady call)) in
+      let two : length (nextSheet (toldAll ring (words call))) ≡ 2 = rw (told-all-same (words call) same, still ring right) in
       let fine : CallFine (ring .n) (record { health = H; last = commandsOf (ring .commands) }) call =
       record { few = few; good = goods; fits = omega (arith, length-is, two, enough) } in
-      let yes = fine-served (size .0) (size .1) steady call fine in
-      call-served ring call yes ∙ rw (told-all-same (words call) same, still ring good, plan-kept ring good arrays)
+      let yes = fine-served small steady good call fine in
+      call-served state call yes ∙ rw (told-all-same (words call) same, still ring right, plan-kept state good arrays)
 
   -- .. and so word 0 for a fit generator
   pub fit-already : (k : ℕ) → InRing (ring .n) (Generator k) → H (Generator k) ≡ 0 → (buffer : List ℕ) → 2 ≤ length buffer
-      → stepReply ring (record { part = Generator k; word = Fit }) buffer
+      → stateStep state (record { part = Generator k; word = Fit }) buffer
       ≡ record { answer = as-it-was; buffer = written (0 ∷ 0 ∷ []) buffer }
   unfolding wordRefusal
   fit-already k inside fit-before buffer enough =
@@ -298,10 +321,14 @@ module _ (ring : Ring) (arrays : Arrays ring) (good : badRecord ring ≡ false) 
       words-repeated (step r buffer) (omega arith) (good-and g no-reports)
       (λ q m. rw (List·Memᴰ·eq-of-singleton m) (sym fit-before)) enough
 
-  -- a ring of the same size and health has the same plan
-  replanned-same : (R : Ring) → R .n ≡ ring .n → R .health ≡ ring .health → servedAnswer R ≡ as-it-was
-  unfolding servedAnswer withPlan planned
-  replanned-same R n-same same = rw (n-same, same) (ap (λ x. record { outcome = Served; ring = x; choices = calledFor ring }) (plan-kept ring good arrays))
+  -- a record of the same size, health and bookings has the same plan and figures
+  replanned-same : (S : RingState) → S .ring .n ≡ ring .n → S .ring .health ≡ ring .health → S .load .bookings ≡ state .load .bookings
+      → S .load .live ≡ state .load .live
+      → servedState S ≡ as-it-was
+  unfolding servedState reckoned withFigures withPlan planned
+  replanned-same S n-same same booked-same live-same =
+      rw (n-same, same, booked-same, live-same)
+      (ap (λ x. record { outcome = Served; state = x; choices = calledFor ring }) (plan-kept state good arrays))
 
   -- a fit part fails and returns: the very record, and the choices that it calls for
   module _ (p : Part) (w : Word) (fit-before : H p ≡ 0) where
@@ -311,30 +338,33 @@ module _ (ring : Ring) (arrays : Arrays ring) (good : badRecord ring ≡ false) 
     abbrev returning : Report
     returning = record { part = p; word = Fit }
 
-    -- the ring that was told the fault
-    abbrev failed : Ring
-    failed = stepReply ring fails fullRoom .answer .ring
+    -- the record that was told the fault
+    abbrev failed : RingState
+    failed = stateStep state fails fullRoom .answer .state
 
     health-back : ring .health ≡ healthPlaces (reported (healthOf (healthPlaces (reported H fails))) returning)
     unfolding reported
-    health-back = health-is ring arrays _ (λ q i. at q i (dec (samePart q p)))
+    health-back = health-is state arrays _ (λ q i. at q i (dec (samePart q p)))
       where
         at : (q : Part) → InRing largest q → (samePart q p ≡ true) ⊎ (samePart q p ≡ false)
             → H q ≡ cond (samePart q p) 0 (healthOf (healthPlaces (reported H fails)) q)
         at q i (inl t) = rw t (ap H (same-eq q p t) ∙ fit-before)
         at q i (inr t) = rw (t, health-places (reported H fails) q i, t)
 
-    pub returned-as-before : Good (ring .n) fails → Good (ring .n) returning → stepReply failed returning fullRoom .answer ≡ as-it-was
-    unfolding servedReply servedAnswer withPlan toldAll told
+    pub returned-as-before : Good (ring .n) fails → Good (ring .n) returning → stateStep failed returning fullRoom .answer ≡ as-it-was
+    unfolding servedState reckoned withFigures withPlan toldState toldAll told
     returned-as-before g h =
-        let size = good-size ring good in
-        let first : stepReply ring fails fullRoom ≡ servedReply (told ring fails) fullRoom =
-        call-served ring (step fails fullRoom) (served-step (size .0) (size .1) (good-steady ring good) fails g) in
-        let n-is : failed .n ≡ ring .n = ap (λ (x : Reply). x .answer .ring .n) first in
-        let stored : failed .health ≡ healthPlaces (reported H fails) = ap (λ (x : Reply). x .answer .ring .health) first in
-        let still-good = call-good ring good (step fails fullRoom) in
-        let bounds = good-size failed still-good in
-        let second : stepReply failed returning fullRoom ≡ servedReply (told failed returning) fullRoom =
+        let small = good-size ring (ring-good state good) .1 in
+        let first : stateStep state fails fullRoom ≡ servedBy (toldState state (fails ∷ [])) fullRoom =
+        call-served state (step fails fullRoom) (served-step small (good-steady state good) good fails g) in
+        let n-is : failed .ring .n ≡ ring .n = ap (λ (x : StateReply). x .answer .state .ring .n) first in
+        let stored : failed .ring .health ≡ healthPlaces (reported H fails) = ap (λ (x : StateReply). x .answer .state .ring .health) first in
+        let booked-is = ap (λ (x : StateReply). x .answer .state .load .bookings) first in
+        let live-is = ap (λ (x : StateReply). x .answer .state .load .live) first in
+        let still-good = call-good state good (step fails fullRoom) in
+        let bound = good-size (failed .ring) (ring-good failed still-good) .1 in
+        let second : stateStep failed returning fullRoom ≡ servedBy (toldState failed (returning ∷ [])) fullRoom =
         call-served failed (step returning fullRoom)
-        (served-step (bounds .0) (bounds .1) (good-steady failed still-good) returning (rw n-is h)) in
-        ap (λ (x : Reply). x .answer) second ∙ replanned-same (told failed returning) n-is (rw stored (sym health-back))
+        (served-step bound (good-steady failed still-good) still-good returning (rw n-is h)) in
+        ap (λ (x : StateReply). x .answer) second
+        ∙ replanned-same (toldState failed (returning ∷ [])) n-is (rw stored (sym health-back)) booked-is live-is

@@ -12,15 +12,28 @@ use Rattle.model.specs.declared.Report.{Report}
 use Rattle.model.specs.declared.Scan.{Scan}
 use Rattle.model.specs.declared.Commands.{Commands}
 use Rattle.model.specs.declared.Ring.{Ring}
+use Rattle.model.specs.declared.RingState.{RingState}
 use Rattle.model.specs.declared.BusChoice.{BusChoice}
 use Rattle.model.specs.declared.Outcome.the-variants as outcome
 use Rattle.model.specs.Plant.{PartHealth, PartCommands, parts, InRing}
 use Rattle.model.specs.Choosing.{plan, commands}
 use Rattle.model.specs.Sheet.{opening, sequence, closing, sheetOf, sheet, written}
-use Rattle.model.specs.Reports.{healthOf, commandsOf, commandPlaces, told, planned, withPlan}
-use Rattle.model.specs.Refusals.{firstMet, orElse, badRecord, countAbove, tooShort, sheetRefusal, nextSheet, reportConditions, stepRefusal}
-use Rattle.model.specs.Answers.{servedAnswer, servedReply, refusedAnswer, refusedReply, stepReply}
-use Rattle.model.specs.Scans.{scanReports, toldAll, firstRefusal, scanRefusal, scanReply}
+use Rattle.model.specs.Reports.{healthOf, commandsOf, commandPlaces, told, planned, calledFor, withPlan}
+use Rattle.model.specs.Refusals.{firstMet, orElse, badRing, countAbove, tooShort, sheetRefusal, nextSheet, reportConditions, stepRefusal}
+use Rattle.model.specs.Scans.{scanReports, toldAll, firstRefusal, scanRefusal}
+use Rattle.model.specs.Bookings.{withFigures}
+use Rattle.model.specs.States.{
+  toldState,
+  reckoned,
+  badRecord,
+  stateRefusal,
+  refusedState,
+  servedState,
+  servedBy,
+  refusedBy,
+  stateStep,
+  stateScan,
+}
 use Rattle.model.specs.Laws.Tests.{contra, dec, dec-eq}
 use Rattle.model.specs.Laws.Lists.{keep-none}
 use Rattle.model.specs.Laws.Parts.{parts-at, command-places}
@@ -31,45 +44,47 @@ use Rattle.theory.specs.Theorems.Locality.{commanded-in-ring, opening-ext}
 use Rattle.theory.specs.Theorems.Closing.{sequence-exactly}
 use Rattle.demands.specs.Statements.Demand3.{step, scan, isServed, AllGood, no-reports, good-and}
 use Rattle.demands.specs.Statements.Records.{Made, stepped, Arrays}
-use Rattle.demands.specs.Statements.Scans.{calledFor, Singly, no-step, first-step}
-use Rattle.demands.specs.Proofs.Answering.{fullRoom, served-fine, call-served, call-refused}
+use Rattle.demands.specs.Statements.Scans.{Singly, no-step, first-step}
+use Rattle.demands.specs.Proofs.Answering.{fullRoom, served-fine, ring-good, call-served, call-refused}
 use Rattle.demands.specs.Theorems.Records.{as-planned, plan-kept, good-steady, served-step, call-good}
 
 -- ---- a served scan
 
-module _ (ring : Ring) (s : Scan) (buffer : List ℕ) (yes : isServed (scanReply ring s buffer) ≡ true) where
-  -- the ring that was told all its reports, with its plan
-  scan-is : scanReply ring s buffer ≡ servedReply (toldAll ring (scanReports s)) buffer
-  scan-is = call-served ring (scan s buffer) yes
+module _ (state : RingState) (s : Scan) (buffer : List ℕ) (yes : isServed (stateScan state s buffer) ≡ true) where
+  -- the ring state that was told all its reports, with its plan
+  scan-is : stateScan state s buffer ≡ servedBy (toldState state (scanReports s)) buffer
+  scan-is = call-served state (scan s buffer) yes
 
   -- its record is good
-  served-record : badRecord ring ≡ false
-  unfolding scanReply scanRefusal firstMet refusedReply refusedAnswer
-  served-record = go (dec (badRecord ring))
+  served-record : badRecord state ≡ false
+  unfolding stateScan stateRefusal firstMet refusedState
+  served-record = go (dec (badRecord state))
     where
-      go : (badRecord ring ≡ true) ⊎ (badRecord ring ≡ false) → badRecord ring ≡ false
+      go : (badRecord state ≡ true) ⊎ (badRecord state ≡ false) → badRecord state ≡ false
       go (inl e) = contra yes (rw e)
       go (inr e) = e
 
   -- and so are its reports
-  served-reports : AllGood (ring .n) (scanReports s)
+  served-reports : AllGood (state .ring .n) (scanReports s)
   served-reports =
       let good = served-record in
-      let size = good-size ring good in
-      served-fine (size .0) (size .1) (good-steady ring good) (scan s buffer) yes .good
+      let size = good-size (state .ring) (ring-good state good) in
+      served-fine (size .1) (good-steady state good) good (scan s buffer) yes .good
 
   -- "the sheet goes straight from the first standing orders to the last", the second wave by the choices for the last health
   pub sheet-straight :
+      let ring = state .ring in
       let first = commandsOf (ring .commands) in
-      let last = scanReply ring s buffer .answer .ring in
-      scanReply ring s buffer .buffer ≡ written
+      let last = stateScan state s buffer .answer .state .ring in
+      stateScan state s buffer .buffer ≡ written
       (sheetOf (opening (ring .n) first (commandsOf (last .commands))) (closing (ring .n) first (plan (ring .n) (healthOf (last .health))))) buffer
-  unfolding servedReply servedAnswer withPlan nextSheet sheet planned toldAll
+  unfolding servedState reckoned withPlan nextSheet sheet planned toldState toldAll
   sheet-straight =
+      let ring = state .ring in
       let told-ring = toldAll ring (scanReports s) in
       let first = commandsOf (ring .commands) in
       let new = commands (ring .n) (healthOf (told-ring .health)) in
-      let small = good-size ring served-record .1 in
+      let small = good-size ring (ring-good state served-record) .1 in
       let same = opening-ext (ring .n) first first (commandsOf (commandPlaces new)) new (λ p r. refl)
       (λ p r. command-places new p (r .0, omega (arith, r .1))) in
       rw (scan-is, told-size ring (scanReports s), told-standing ring (scanReports s))
@@ -85,72 +100,78 @@ told-health [] ring C = refl
 told-health (r ∷ rs) ring C = told-health rs (told ring r) C
 
 -- a plan between two words leaves no trace in the record or in the choices
-replanned : (rs : List Report) (ring : Ring)
-    → let later = toldAll (withPlan ring) rs in
-    (withPlan later ≡ withPlan (toldAll ring rs)) × (calledFor later ≡ calledFor (toldAll ring rs))
-unfolding withPlan planned
-replanned rs ring =
+replanned : (rs : List Report) (state : RingState)
+    → let planned-first = servedState state .state in
+    (servedState (toldState planned-first rs) .state ≡ servedState (toldState state rs) .state)
+    × (servedState (toldState planned-first rs) .choices ≡ servedState (toldState state rs) .choices)
+unfolding servedState toldState reckoned withFigures withPlan planned
+replanned rs state =
+    let ring = state .ring in
     let h = told-health rs ring (commandPlaces (commands (ring .n) (healthOf (ring .health)))) in
     let a = told-size (withPlan ring) rs in
     let b = told-size ring rs in
     (rw (h, a, b), rw (h, a, b))
 
--- what single steps end with, from a record with its plan
-singly-ends : {ring last : Ring} {shown last-shown : List BusChoice} {rs : List Report} → Singly ring shown rs last last-shown
-    → withPlan ring ≡ ring → shown ≡ calledFor ring
-    → (last ≡ withPlan (toldAll ring rs)) × (last-shown ≡ calledFor (toldAll ring rs))
-unfolding toldAll servedReply servedAnswer withPlan planned
+-- what single steps end with, from a record with its plan and its figures
+singly-ends : {state last : RingState} {shown last-shown : List BusChoice} {rs : List Report} → Singly state shown rs last last-shown
+    → servedState state .state ≡ state → shown ≡ calledFor (state .ring)
+    → (last ≡ servedState (toldState state rs) .state) × (last-shown ≡ servedState (toldState state rs) .choices)
+unfolding toldState toldAll servedState reckoned withFigures withPlan planned
 singly-ends no-step p q = (sym p, q)
-singly-ends {ring} (first-step {rs = rs} r buffer e d) p q =
-    let z = call-served ring (step r buffer) e in
+singly-ends {state} (first-step {rs = rs} r buffer e d) p q =
+    let z = call-served state (step r buffer) e in
     let t = singly-ends d (rw z) (rw z) in
-    let u = replanned rs (told ring r) in
+    let u = replanned rs (toldState state (r ∷ [])) in
     ((rw z at (t .0)) ∙ u .0, (rw z at (t .1)) ∙ u .1)
 
 -- single steps with good reports are served, each in a buffer with room for every sheet
-singly : {n : ℕ} {rs : List Report} → AllGood n rs → (ring : Ring) (shown : List BusChoice) → badRecord ring ≡ false → ring .n ≡ n
-    → (last : Ring) × (last-shown : List BusChoice) × Singly ring shown rs last last-shown
-unfolding servedReply servedAnswer withPlan toldAll told
-singly no-reports ring shown good size = (ring, shown, no-step)
-singly {n} (good-and {r = r} g a) ring shown good size =
-    let bounds = good-size ring good in
-    let e = served-step (bounds .0) (bounds .1) (good-steady ring good) r (rw size g) in
-    let a₁ = stepReply ring r fullRoom .answer in
-    let same : a₁ .ring .n ≡ n = rw (call-served ring (step r fullRoom) e) size in
-    let t = singly a (a₁ .ring) (a₁ .choices) (call-good ring good (step r fullRoom)) same in
+singly : {n : ℕ} {rs : List Report} → AllGood n rs → (state : RingState) (shown : List BusChoice) → badRecord state ≡ false
+    → state .ring .n ≡ n
+    → (last : RingState) × (last-shown : List BusChoice) × Singly state shown rs last last-shown
+unfolding servedState reckoned withPlan toldState toldAll told
+singly no-reports state shown good size = (state, shown, no-step)
+singly {n} (good-and {r = r} g a) state shown good size =
+    let bounds = good-size (state .ring) (ring-good state good) in
+    let e = served-step (bounds .1) (good-steady state good) good r (rw size g) in
+    let a₁ = stateStep state r fullRoom .answer in
+    let same : a₁ .state .ring .n ≡ n = rw (call-served state (step r fullRoom) e) size in
+    let t = singly a (a₁ .state) (a₁ .choices) (call-good state good (step r fullRoom)) same in
     (t .0, t .1, first-step r fullRoom e (t .2))
 
-module _ (ring : Ring) (arrays : Arrays ring) (s : Scan) (buffer : List ℕ) (yes : isServed (scanReply ring s buffer) ≡ true) where
+module _ (state : RingState) (arrays : Arrays state) (s : Scan) (buffer : List ℕ) (yes : isServed (stateScan state s buffer) ≡ true) where
   -- whatever single steps of its reports are served, they end with the record and the choices of the scan
-  pub as-single-steps : {last : Ring} {last-shown : List BusChoice} → Singly ring (calledFor ring) (scanReports s) last last-shown
-      → (scanReply ring s buffer .answer .ring ≡ last) × (scanReply ring s buffer .answer .choices ≡ last-shown)
-  unfolding servedReply servedAnswer
+  pub as-single-steps : {last : RingState} {last-shown : List BusChoice} → Singly state (calledFor (state .ring)) (scanReports s) last last-shown
+      → (stateScan state s buffer .answer .state ≡ last) × (stateScan state s buffer .answer .choices ≡ last-shown)
+  unfolding servedState reckoned
   as-single-steps d =
-      let t = singly-ends d (plan-kept ring (served-record ring s buffer yes) arrays) refl in
-      let z = scan-is ring s buffer yes in
+      let t = singly-ends d (plan-kept state (served-record state s buffer yes) arrays) refl in
+      let z = scan-is state s buffer yes in
       (rw z (sym (t .0)), rw z (sym (t .1)))
 
   -- and there are such steps
-  pub single-steps : let a = scanReply ring s buffer .answer in Singly ring (calledFor ring) (scanReports s) (a .ring) (a .choices)
+  pub single-steps :
+      let a = stateScan state s buffer .answer in
+      Singly state (calledFor (state .ring)) (scanReports s) (a .state) (a .choices)
   single-steps =
-      let t = singly (served-reports ring s buffer yes) ring (calledFor ring) (served-record ring s buffer yes) refl in
+      let t = singly (served-reports state s buffer yes) state (calledFor (state .ring)) (served-record state s buffer yes) refl in
       let u = as-single-steps (t .2) in
       rw (u .0, u .1) (t .2)
 
--- a scan makes no record that start and steps do not make
-singly-made : {ring last : Ring} {shown last-shown : List BusChoice} {rs : List Report} → Singly ring shown rs last last-shown
-    → Made ring → Made last
+-- a scan makes no record that start, steps, bookings and cancellations do not make
+singly-made : {state last : RingState} {shown last-shown : List BusChoice} {rs : List Report} → Singly state shown rs last last-shown
+    → Made state → Made last
 singly-made no-step m = m
 singly-made (first-step r buffer e d) m = singly-made d (stepped r buffer m)
 
-pub scan-made : (ring : Ring) → Arrays ring → Made ring → (s : Scan) (buffer : List ℕ) → Made (scanReply ring s buffer .answer .ring)
-unfolding refusedReply refusedAnswer
-scan-made ring arrays m s buffer = go (dec (isServed (scanReply ring s buffer)))
+pub scan-made : (state : RingState) → Arrays state → Made state → (s : Scan) (buffer : List ℕ)
+    → Made (stateScan state s buffer .answer .state)
+unfolding refusedState
+scan-made state arrays m s buffer = go (dec (isServed (stateScan state s buffer)))
   where
-    go : (isServed (scanReply ring s buffer) ≡ true) ⊎ (isServed (scanReply ring s buffer) ≡ false)
-        → Made (scanReply ring s buffer .answer .ring)
-    go (inl e) = singly-made (single-steps ring arrays s buffer e) m
-    go (inr e) = rw (call-refused ring (scan s buffer) e) m
+    go : (isServed (stateScan state s buffer) ≡ true) ⊎ (isServed (stateScan state s buffer) ≡ false)
+        → Made (stateScan state s buffer .answer .state)
+    go (inl e) = singly-made (single-steps state arrays s buffer e) m
+    go (inr e) = rw (call-refused state (scan s buffer) e) m
 
 -- ---- "The first bad report refuses the scan with the refusal that report alone would get, and nothing changes."
 
@@ -168,35 +189,35 @@ bad-after n (q ∷ front) r back e f = go (λ z. bad-after n front r back z f) (
     go ih (inr z) = absurd (z (rw (ne-eqb (firstMet (reportConditions n q)) 0 z) at e))
 
 -- of a good record and a count that is not refused, the report r is the first bad one
-module _ (ring : Ring) (good : badRecord ring ≡ false) (s : Scan) (few : s .count ≤ 64) (front : List Report) (r : Report)
-    (back : List Report) (are : scanReports s ≡ front ++ (r ∷ back)) (before : firstRefusal (ring .n) front ≡ 0)
-    (bad : firstMet (reportConditions (ring .n) r) ≢ 0) (buffer : List ℕ) where
+module _ (state : RingState) (good : badRecord state ≡ false) (s : Scan) (few : s .count ≤ 64) (front : List Report) (r : Report)
+    (back : List Report) (are : scanReports s ≡ front ++ (r ∷ back)) (before : firstRefusal (state .ring .n) front ≡ 0)
+    (bad : firstMet (reportConditions (state .ring .n) r) ≢ 0) (buffer : List ℕ) where
   -- its refusal
   abbrev K : ℕ
-  K = firstMet (reportConditions (ring .n) r)
+  K = firstMet (reportConditions (state .ring .n) r)
 
-  scan-number : scanRefusal ring s (length buffer) ≡ K
-  unfolding firstMet countAbove
+  scan-number : stateRefusal state (scanRefusal (state .ring) s (length buffer)) ≡ K
+  unfolding stateRefusal firstMet countAbove
   scan-number =
-      scan-refusal ring good s (length buffer)
-      ∙ rw (le-ltb 64 (s .count) few, are, bad-after (ring .n) front r back before bad, ne-eqb K 0 bad)
+      rw (good, scan-refusal (state .ring) (ring-good state good) s (length buffer), le-ltb 64 (s .count) few, are, bad-after (state .ring .n) front r back before bad, ne-eqb K 0 bad)
 
-  step-number : stepRefusal ring r (length buffer) ≡ K
-  step-number = step-refusal ring good r (length buffer) ∙ rw (ne-eqb K 0 bad)
+  step-number : stateRefusal state (stepRefusal (state .ring) r (length buffer)) ≡ K
+  unfolding stateRefusal firstMet
+  step-number = rw (good, step-refusal (state .ring) (ring-good state good) r (length buffer), ne-eqb K 0 bad)
 
-  pub first-bad-refuses : scanReply ring s buffer ≡ refusedReply K ring buffer
-  unfolding scanReply
+  pub first-bad-refuses : stateScan state s buffer ≡ refusedBy K state buffer
+  unfolding stateScan
   first-bad-refuses = rw (scan-number, ne-eqb K 0 bad)
 
   -- "the refusal that report alone would get"
-  pub as-alone : stepReply ring r buffer ≡ refusedReply K ring buffer
-  unfolding stepReply
+  pub as-alone : stateStep state r buffer ≡ refusedBy K state buffer
+  unfolding stateStep
   as-alone = rw (step-number, ne-eqb K 0 bad)
 
 -- ---- "No reports means the record as it was, the choices it calls for and two empty waves."
 
 -- nothing changes between a good record's standing commands and those that it calls for
-pub still : (ring : Ring) → badRecord ring ≡ false → nextSheet ring ≡ 0 ∷ 0 ∷ []
+pub still : (ring : Ring) → badRing ring ≡ false → nextSheet ring ≡ 0 ∷ 0 ∷ []
 unfolding nextSheet sheet sheetOf opening closing
 still ring good =
     rw (
@@ -227,14 +248,16 @@ still ring good =
     none-closes : (p : Part) → N p ≡ true → not (C p) ≡ false
     none-closes p e = rw (same p (commanded-in-ring (ring .n) H p e), e)
 
-pub empty-scan : (ring : Ring) → Arrays ring → badRecord ring ≡ false → (s : Scan) → s .count ≡ 0 → (buffer : List ℕ) → 2 ≤ length buffer
-    → scanReply ring s buffer ≡ record {
-      answer = record { outcome = outcome.Served; ring = ring; choices = calledFor ring };
+pub empty-scan : (state : RingState) → Arrays state → badRecord state ≡ false → (s : Scan) → s .count ≡ 0 → (buffer : List ℕ)
+    → 2 ≤ length buffer
+    → stateScan state s buffer ≡ record {
+      answer = record { outcome = outcome.Served; state = state; choices = calledFor (state .ring) };
       buffer = written (0 ∷ 0 ∷ []) buffer;
     }
-unfolding scanReply scanRefusal firstMet countAbove firstRefusal toldAll sheetRefusal tooShort servedReply servedAnswer
-empty-scan ring arrays good s none buffer enough =
-    rw (none, good, still ring good, le-ltb (length buffer) 2 enough, plan-kept ring good arrays)
+unfolding stateScan stateRefusal scanRefusal firstMet countAbove firstRefusal toldState toldAll sheetRefusal tooShort servedState
+empty-scan state arrays good s none buffer enough =
+    let right = ring-good state good in
+    rw (none, good, right, still (state .ring) right, le-ltb (length buffer) 2 enough, plan-kept state good arrays)
 
 -- ---- "places past the count are not read"
 
@@ -250,29 +273,33 @@ take-same d (suc k) (x ∷ xs) (y ∷ ys) e h =
     rw (here, rest)
 
 -- two scans of 64 places that agree up to the count have one answer and leave one buffer
-pub past-count : (ring : Ring) (s t : Scan) (buffer : List ℕ) (d : Report) → length (s .reports) ≡ 64 → length (t .reports) ≡ 64
+pub past-count : (state : RingState) (s t : Scan) (buffer : List ℕ) (d : Report) → length (s .reports) ≡ 64 → length (t .reports) ≡ 64
     → s .count ≡ t .count
-    → ((i : ℕ) → i < s .count → getD (s .reports) i d ≡ getD (t .reports) i d) → scanReply ring s buffer ≡ scanReply ring t buffer
-unfolding scanReply scanRefusal
-past-count ring s t buffer d a b e h = rw (take-same d (s .count) (s .reports) (t .reports) (a ∙ sym b) h, e)
+    → ((i : ℕ) → i < s .count → getD (s .reports) i d ≡ getD (t .reports) i d) → stateScan state s buffer ≡ stateScan state t buffer
+unfolding stateScan scanRefusal
+past-count state s t buffer d a b e h = rw (take-same d (s .count) (s .reports) (t .reports) (a ∙ sym b) h, e)
 
 -- ---- a scan of one report is a step
 
-module _ (ring : Ring) (s : Scan) (r : Report) (buffer : List ℕ) (few : s .count ≤ 64) (is : scanReports s ≡ r ∷ []) where
-  nine : badRecord ring ≡ true → scanRefusal ring s (length buffer) ≡ stepRefusal ring r (length buffer)
-  unfolding scanRefusal stepRefusal firstMet
+module _ (state : RingState) (s : Scan) (r : Report) (buffer : List ℕ) (few : s .count ≤ 64) (is : scanReports s ≡ r ∷ []) where
+  nine : badRecord state ≡ true
+      → stateRefusal state (scanRefusal (state .ring) s (length buffer)) ≡ stateRefusal state (stepRefusal (state .ring) r (length buffer))
+  unfolding stateRefusal firstMet
   nine e = rw e
 
-  not-nine : badRecord ring ≡ false → scanRefusal ring s (length buffer) ≡ stepRefusal ring r (length buffer)
+  not-nine : badRecord state ≡ false → scanRefusal (state .ring) s (length buffer) ≡ stepRefusal (state .ring) r (length buffer)
   unfolding firstMet firstRefusal countAbove toldAll
   not-nine e =
-      scan-refusal ring e s (length buffer)
-      ∙ rw (le-ltb 64 (s .count) few, is, or-nothing (firstMet (reportConditions (ring .n) r))) (sym (step-refusal ring e r (length buffer)))
+      let ring = state .ring in
+      let good = ring-good state e in
+      scan-refusal ring good s (length buffer)
+      ∙ rw (le-ltb 64 (s .count) few, is, or-nothing (firstMet (reportConditions (ring .n) r))) (sym (step-refusal ring good r (length buffer)))
 
-  pub one-report : scanReply ring s buffer ≡ stepReply ring r buffer
-  unfolding scanReply stepReply toldAll
-  one-report = rw (is, number (dec (badRecord ring)))
+  pub one-report : stateScan state s buffer ≡ stateStep state r buffer
+  unfolding stateScan stateStep
+  one-report = rw (is, number (dec (badRecord state)))
     where
-      number : (badRecord ring ≡ true) ⊎ (badRecord ring ≡ false) → scanRefusal ring s (length buffer) ≡ stepRefusal ring r (length buffer)
+      number : (badRecord state ≡ true) ⊎ (badRecord state ≡ false)
+          → stateRefusal state (scanRefusal (state .ring) s (length buffer)) ≡ stateRefusal state (stepRefusal (state .ring) r (length buffer))
       number (inl e) = nine e
-      number (inr e) = not-nine e
+      number (inr e) = ap (stateRefusal state) (not-nine e)

@@ -15,7 +15,7 @@ use Rattle.model.specs.Refusals.{
   orElse,
   notOfRing,
   wordOfOtherKind,
-  badRecord,
+  badRing,
   countAbove,
   nextSheet,
   reportConditions,
@@ -33,7 +33,7 @@ or-nothing k = go (dec-eq k 0)
     go (inl e) = rw e
     go (inr e) = rw (ne-eqb k 0 e)
 
-module _ (ring : Ring) (good : badRecord ring ≡ false) where
+module _ (ring : Ring) (good : badRing ring ≡ false) where
   -- 5 and 6 come before 8
   pub step-refusal : (r : Report) (room : ℕ)
       → stepRefusal ring r room ≡ orElse (firstMet (reportConditions (ring .n) r)) (sheetRefusal room (nextSheet (told ring r)))

@@ -11,7 +11,7 @@ use Rattle.model.specs.declared.Outcome.the-variants as outcome
 use Rattle.model.specs.Lists.{anyOf}
 use Rattle.model.specs.Values.{outcomeNumber, outcomeOf}
 use Rattle.model.specs.Plant.{smallest, largest}
-use Rattle.model.specs.Refusals.{sizeOutside, badRecord, busOutside}
+use Rattle.model.specs.Refusals.{sizeOutside, badRing, busOutside}
 use Rattle.model.specs.Laws.Tests.{never, or-none, or-right, dec, dec-eq}
 
 -- the outcome that has a number has that number
@@ -29,8 +29,8 @@ unfolding sizeOutside
 size-bounds n e = let t = or-none (ltb n smallest) (ltb largest n) e in (ltb-false n smallest (t .0), ltb-false largest n (t .1))
 
 -- the size of a record that is not refused
-pub good-size : (ring : Ring) → badRecord ring ≡ false → (smallest ≤ ring .n) × (ring .n ≤ largest)
-unfolding badRecord anyOf
+pub good-size : (ring : Ring) → badRing ring ≡ false → (smallest ≤ ring .n) × (ring .n ≤ largest)
+unfolding badRing anyOf
 good-size ring good = size-bounds (ring .n) (or-none (sizeOutside (ring .n)) _ good .0)
 
 pub outside : (n : ℕ) → (n < 3) ⊎ (20 < n) → sizeOutside n ≡ true

@@ -1,4 +1,4 @@
--- Laws of a ring state that is told several reports: one report more, and what no report changes.
+-- Laws of a ring that is told several reports: one report more, and what no report changes.
 use mathlib.Core.Path.{_≡_, refl}
 use mathlib.Core.List.{List, [], _∷_, _++_}
 use Rattle.model.specs.declared.Report.{Report}

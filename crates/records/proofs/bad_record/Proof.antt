@@ -1,51 +1,52 @@
--- `records::bad_record` meets its contract: the four conditions of refusal 9, in turn.
+-- `records::bad_record` meets its contract: the four conditions of refusal 9 on a ring, in turn, then those on its load.
 use mathlib.Core.Path.{_≡_, sym, _∙_}
 use mathlib.Core.Bool.{false}
 use borrow.Author.Needs.{needs}
 use Rattle.model.specs.Plant.{largest, parts}
 use Rattle.model.specs.Choosing.{commands}
-use Rattle.model.specs.Reports.{healthOf, commandPlaces}
-use Rattle.model.specs.Refusals.{sizeOutside, healthOutside}
+use Rattle.model.specs.Reports.{healthOf, commandsOf, commandPlaces, calledFor}
+use Rattle.model.specs.Refusals.{sizeOutside, healthOutside, activeAbove, unplanned}
 use Rattle.model.specs.Laws.Refusals.{size-bounds}
-use Rattle.records.specs.Records.{differ-planned, bad-size, bad-health, bad-above, bad-commands}
+use Rattle.theory.specs.Proofs.Choosing.{choices-inside}
+use Rattle.components.specs.Tests.{outcomes}
+use Rattle.records.specs.Records.{differ-planned, bad-size, bad-health, bad-above, bad-commands, load-decides}
 use Rattle.records.proofs.bad_record.Statement.{statement}
 use Rattle.records.proofs.bad_record.Tie as tie
 
 -- what a passed check says
-inside : (d : tie.Else1) → sizeOutside (d .before .before .args .ring .n) ≡ false
+inside : (d : tie.Else1) → sizeOutside (d .before .before .before .args .state .ring .n) ≡ false
 inside d = sym (d .before .size-outside .ensures) ∙ d .if1 .left
 
-of-kind : (d : tie.Else2) → healthOutside (healthOf (d .before .before .before .before .args .ring .health)) (parts largest) ≡ false
+of-kind : (d : tie.Else2)
+    → healthOutside (healthOf (d .before .before .before .before .before .args .state .ring .health)) (parts largest) ≡ false
 of-kind d = sym (d .before .health-outside .ensures) ∙ d .if2 .left
 
-planned : (d : tie.After-plan)
-    → (let ring = d .before .before .before .before .before .before .before .before .args .ring in
+quiet : (d : tie.Else3)
+    → (let ring = d .before .before .before .before .before .before .before .before .args .state .ring in
+    activeAbove (ring .n) (healthOf (ring .health)) (commandsOf (ring .commands)) ≡ false)
+quiet d = sym (d .before .active-above .ensures) ∙ d .if3 .left
+
+-- the commands and the choices planned are those that the health calls for
+planned-commands : (d : tie.After-plan)
+    → (let ring = d .before .before .before .before .before .before .before .before .before .args .state .ring in
     d .plan .result .commands ≡ commandPlaces (commands (ring .n) (healthOf (ring .health))))
-planned d = cc
+planned-commands d = cc
 
--- the standing commands are the last to be looked at
-returns-4 : tie.Need-returns-4
-returns-4 c =
-    let e = c .before .before in
-    let d = e .before .before .before in
-    c .differ .ensures
-    ∙ differ-planned _ _ _ _ (planned (c .before))
-    ∙ bad-commands _ (inside (d .before .before)) (of-kind d) (sym (e .before .active-above .ensures) ∙ e .if3 .left)
+planned-choices : (d : tie.After-plan)
+    → d .plan .result .choices ≡ calledFor (d .before .before .before .before .before .before .before .before .before .args .state .ring)
+planned-choices d = cc
 
-size-outside-requires : tie.Need-size-outside-requires
-size-outside-requires c κs = search needs
+-- the standing commands are compared with those planned
+compared : (d : tie.After-differ)
+    → (let ring = d .before .before .before .before .before .before .before .before .before .before .args .state .ring in
+    d .differ .result ≡ unplanned (ring .n) (healthOf (ring .health)) (commandsOf (ring .commands)))
+compared d = d .differ .ensures ∙ differ-planned _ _ _ _ (planned-commands (d .before))
 
 returns : tie.Need-returns
 returns c = bad-size _ (sym (c .before .size-outside .ensures) ∙ c .if1 .taken)
 
-health-outside-requires : tie.Need-health-outside-requires
-health-outside-requires c κs = search needs
-
 returns-2 : tie.Need-returns-2
 returns-2 c = bad-health _ (inside (c .before .before)) (sym (c .before .health-outside .ensures) ∙ c .if2 .taken)
-
-cast-active-above : tie.Need-cast-active-above
-cast-active-above c = search needs
 
 active-above-requires : tie.Need-active-above-requires
 active-above-requires c κs = size-bounds _ (inside (c .before .before .before)) .1
@@ -58,20 +59,41 @@ returns-3 c =
 plan-requires : tie.Need-plan-requires
 plan-requires c κs = size-bounds _ (inside (c .before .before .before .before .before))
 
-differ-requires : tie.Need-differ-requires
-differ-requires c κs = search needs
+returns-4 : tie.Need-returns-4
+returns-4 c =
+    let e = c .before .before .before in
+    let d = e .before .before .before in
+    bad-commands _ (inside (d .before .before)) (of-kind d) (quiet e) (sym (compared (c .before)) ∙ c .if4 .taken)
+
+-- the choices are those of the ring
+bad-load-requires : tie.Need-bad-load-requires
+bad-load-requires c κs =
+    let d = c .before .before .before .before in
+    let small = size-bounds _ (inside (d .before .before .before .before .before .before)) .1 in
+    (small, rw (planned-choices d) (choices-inside _ _ small))
+
+returns-5 : tie.Need-returns-5
+returns-5 c =
+    let f = c .before .before .before in
+    let e = f .before .before .before in
+    let d = e .before .before .before in
+    let p = f .before .before in
+    load-decides _ (inside (d .before .before)) (of-kind d) (quiet e) (sym (compared (f .before)) ∙ f .if4 .left) (p .plan .result .choices)
+    (planned-choices p) _ (search outcomes)
 
 pub bad-record-spec : {M : Type 1} → statement M
 bad-record-spec =
     tie.close
     (tie.spec
-    size-outside-requires
+    (λ c κs. search needs)
     returns
-    health-outside-requires
+    (λ c κs. search needs)
     returns-2
-    cast-active-above
+    (λ c. search needs)
     active-above-requires
     returns-3
     plan-requires
-    differ-requires
-    returns-4)
+    (λ c κs. search needs)
+    returns-4
+    bad-load-requires
+    returns-5)

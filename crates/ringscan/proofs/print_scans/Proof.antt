@@ -5,14 +5,14 @@ use Prim.Native.Nat.{_≤_, _-_}
 use lib.ListN.{length}
 use lib.Seq.{length-take-le}
 use borrow.Author.Needs.{needs}
-use Rattle.model.specs.Refusals.{badRecord}
+use Rattle.model.specs.Refusals.{badRing}
 use Rattle.model.specs.Text.{lineRoom}
 use Rattle.calls.specs.Lines.{stored-fits}
 use Rattle.ringscan.proofs.print_scans.Statement.{statement}
 use Rattle.ringscan.proofs.print_scans.Tie as tie
 
 abbrev Inv-loop : tie.InvT-loop
-Inv-loop out₀ ring₀ i₀ said out ring i = (badRecord ring ≡ false) × (lineRoom ≤ length out) × (length out ≡ length out₀) × (i ≤ 10000)
+Inv-loop out₀ ring₀ i₀ said out ring i = (badRing ring ≡ false) × (lineRoom ≤ length out) × (length out ≡ length out₀) × (i ≤ 10000)
 
 abbrev μ-loop : tie.MeasureT-loop
 μ-loop out₀ ring₀ i₀ said out ring i = 10000 - i

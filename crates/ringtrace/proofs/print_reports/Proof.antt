@@ -6,10 +6,10 @@ use Rattle.ringtrace.proofs.print_reports.Statement.{statement}
 use Rattle.ringtrace.proofs.print_reports.Tie as tie
 
 abbrev Inv-loop : tie.InvT-loop
-Inv-loop codes words ring₀ i₀ ring i = i ≤ length codes
+Inv-loop codes words state₀ i₀ state i = i ≤ length codes
 
 abbrev μ-loop : tie.MeasureT-loop
-μ-loop codes words ring₀ i₀ ring i = length codes - i
+μ-loop codes words state₀ i₀ state i = length codes - i
 
 loop-holds : tie.Need-loop-holds Inv-loop μ-loop
 loop-holds c = search needs

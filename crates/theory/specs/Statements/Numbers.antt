@@ -10,11 +10,14 @@ use Rattle.model.specs.declared.Scan.{Scan}
 use Rattle.model.specs.declared.Health.{Health}
 use Rattle.model.specs.declared.Commands.{Commands}
 use Rattle.model.specs.declared.Ring.{Ring}
+use Rattle.model.specs.declared.RingState.{RingState}
+use Rattle.model.specs.declared.Booking.{Booking}
 use Rattle.model.specs.Values.{outcomeNumber, outcomeOf, partValues, wordValues, reportValues, fileValues}
 use Rattle.model.specs.Reports.{partNamed, wordNamed}
 use Rattle.model.specs.Refusals.{firstMet, reportConditions, sheetRefusal, fileRefusal}
 use Rattle.model.specs.Answers.{partAnswer, wordAnswer, reportAt, fileAnswer, feedsAnswer, startReply, stepReply}
 use Rattle.model.specs.Scans.{firstRefusal, scanReply}
+use Rattle.model.specs.States.{stateStart, stateStep, stateScan, bookAnswer, cancelAnswer}
 use Rattle.model.specs.CutSets.{cutSetsReply}
 use Rattle.model.specs.Text.{refusedText, printedRun}
 use Rattle.model.specs.CutText.{printedCutSets}
@@ -33,15 +36,21 @@ pub record NeverGiven (k : ℕ) : Type 0 where
   pub check-report : (n : ℕ) (r : Report) → outcomeNumber (outcomeOf (firstMet (reportConditions n r))) ≢ k
   -- plant::feeds
   pub feeds : (n : ℕ) (health : Health) (commands : Commands) → outcomeNumber (feedsAnswer n health commands .outcome) ≢ k
-  -- control::start, control::step, control::scan; so transition::start, transition::step, transition::scan
-  pub start : (n : ℕ) (buffer : List ℕ) → outcomeNumber (startReply n buffer .answer .outcome) ≢ k
-  pub step : (ring : Ring) (r : Report) (buffer : List ℕ) → outcomeNumber (stepReply ring r buffer .answer .outcome) ≢ k
-  pub scan : (ring : Ring) (s : Scan) (buffer : List ℕ) → outcomeNumber (scanReply ring s buffer .answer .outcome) ≢ k
+  -- control::start, control::step, control::scan, control::book, control::cancel
+  pub start : (n : ℕ) (buffer : List ℕ) → outcomeNumber (stateStart n buffer .answer .outcome) ≢ k
+  pub step : (state : RingState) (r : Report) (buffer : List ℕ) → outcomeNumber (stateStep state r buffer .answer .outcome) ≢ k
+  pub scan : (state : RingState) (s : Scan) (buffer : List ℕ) → outcomeNumber (stateScan state s buffer .answer .outcome) ≢ k
+  pub book : (state : RingState) (b : Booking) → outcomeNumber (bookAnswer state b .outcome) ≢ k
+  pub cancel : (state : RingState) (v : ℕ) → outcomeNumber (cancelAnswer state v .outcome) ≢ k
+  -- transition::start, transition::step, transition::scan
+  pub inner-start : (n : ℕ) (buffer : List ℕ) → outcomeNumber (startReply n buffer .answer .outcome) ≢ k
+  pub inner-step : (ring : Ring) (r : Report) (buffer : List ℕ) → outcomeNumber (stepReply ring r buffer .answer .outcome) ≢ k
+  pub inner-scan : (ring : Ring) (s : Scan) (buffer : List ℕ) → outcomeNumber (scanReply ring s buffer .answer .outcome) ≢ k
   -- scans::check, sheet::write
   pub check : (n : ℕ) (rs : List Report) → outcomeNumber (outcomeOf (firstRefusal n rs)) ≢ k
   pub write : (bytes buffer : List ℕ) → outcomeNumber (outcomeOf (sheetRefusal (length buffer) bytes)) ≢ k
   -- cutsets::list
-  pub list : (ring : Ring) (bus : ℕ) (buffer : List ℕ) → outcomeNumber (cutSetsReply ring bus buffer .answer .outcome) ≢ k
+  pub list : (state : RingState) (bus : ℕ) (buffer : List ℕ) → outcomeNumber (cutSetsReply state bus buffer .answer .outcome) ≢ k
   -- run::fill and cursor::next_line, piece by piece, and ringctl; ringcuts; calls::scan_text and ringscan
   pub printed-run : (file : List ℕ) → printedRun file ≢ refusedText k
   pub printed-cut-sets : (file : List ℕ) → printedCutSets file ≢ refusedText k

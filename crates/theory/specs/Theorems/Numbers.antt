@@ -18,14 +18,18 @@ use Rattle.model.specs.declared.Report.{Report}
 use Rattle.model.specs.declared.Health.{Health}
 use Rattle.model.specs.declared.Commands.{Commands}
 use Rattle.model.specs.declared.Ring.{Ring}
+use Rattle.model.specs.declared.RingState.{RingState}
 use Rattle.model.specs.declared.Scan.{Scan}
+use Rattle.model.specs.declared.Booking.{Booking}
+use Rattle.model.specs.declared.Load.{Load}
+use Rattle.model.specs.declared.BookingAnswer.{BookingAnswer}
 use Rattle.model.specs.declared.ReportAnswer.the-variants.{Missing}
 use Rattle.model.specs.declared.FileAnswer.the-variants.{Served}
 use Rattle.model.specs.Lists.{below, keep, first, anyOf, allOf}
 use Rattle.model.specs.Values.{samePart, partCode, outcomeNumber, outcomeOf, partValues, wordValues, reportValues, fileValues}
 use Rattle.model.specs.Plant.{parts, healthOfKind, next, up, arc, connected}
 use Rattle.model.specs.Priority.{others, sources, pathBusBreakers, pathBreakers, pathParts, highRises, pathsFrom, paths}
-use Rattle.model.specs.Choosing.{onPaths, usable, countedClosed, isolated, permitted, choose, addPath, chosen, commands}
+use Rattle.model.specs.Choosing.{onPaths, usable, countedClosed, isolated, permitted, choose, addPath, chosen, choiceOf, plan, commands, choices}
 use Rattle.model.specs.Reports.{
   fileSize,
   fileCount,
@@ -53,7 +57,7 @@ use Rattle.model.specs.Refusals.{
   healthOutside,
   activeAbove,
   unplanned,
-  badRecord,
+  badRing,
   busOutside,
   countAbove,
   reportConditions,
@@ -83,6 +87,41 @@ use Rattle.model.specs.Answers.{
   stepReply,
 }
 use Rattle.model.specs.Scans.{scanReports, toldAll, firstRefusal, scanRefusal, scanReply}
+use Rattle.model.specs.Bookings.{
+  liveBookings,
+  noLoad,
+  totalWatts,
+  wattsOf,
+  withFigures,
+  withBooking,
+  withoutBooking,
+  wattsOutside,
+  isLive,
+  noPlace,
+  liveTwice,
+  bookingOutside,
+  otherFigures,
+  badLoad,
+}
+use Rattle.model.specs.States.{
+  StateReply,
+  unloaded,
+  toldState,
+  reckoned,
+  badRecord,
+  stateRefusal,
+  refusedState,
+  servedState,
+  stateBy,
+  stateStart,
+  stateStep,
+  stateScan,
+  bookRefusal,
+  cancelRefusal,
+  bookingBy,
+  bookAnswer,
+  cancelAnswer,
+}
 use Rattle.model.specs.CutSets.{ringCutSets, CutSetsReply, cutSetsRefusal, refusedCutSets, servedCutSets, cutSetsReply}
 use Rattle.model.specs.Text.{
   ascii,
@@ -163,23 +202,41 @@ start-never n room = more (sizeOutside n) 2 _ refl (more (tooShort room _) 8 _ r
 step-never : (ring : Ring) (r : Report) (room : ℕ) → stepRefusal ring r room ≢ 7
 unfolding stepRefusal reportConditions firstMet
 step-never ring r room =
-    more (badRecord ring) 9 _ refl
+    more (badRing ring) 9 _ refl
     (more (notOfRing (ring .n) (r .part)) 5 _ refl
     (more (wordOfOtherKind (r .part) _) 6 _ refl (more (tooShort room _) 8 _ refl served)))
 
 scan-never : (ring : Ring) (s : Scan) (room : ℕ) → scanRefusal ring s room ≢ 7
 unfolding scanRefusal firstMet
 scan-never ring s room =
-    or-never _ _ (more (badRecord ring) 9 _ refl (more (countAbove (s .count)) 11 _ refl served))
+    or-never _ _ (more (badRing ring) 9 _ refl (more (countAbove (s .count)) 11 _ refl served))
     (or-never _ _ (first-never (ring .n) (scanReports s)) (sheet-never room _))
 
 feeds-never : (n : ℕ) (h : Health) → feedsRefusal n (healthOf h) ≢ 7
 unfolding feedsRefusal firstMet
 feeds-never n h = more (sizeOutside n) 2 _ refl (more (healthOutside (healthOf h) _) 9 _ refl served)
 
-list-never : (ring : Ring) (bus room : ℕ) → cutSetsRefusal ring bus room ≢ 7
+list-never : (state : RingState) (bus room : ℕ) → cutSetsRefusal state bus room ≢ 7
 unfolding cutSetsRefusal firstMet
-list-never ring bus room = more (badRecord ring) 9 _ refl (more (busOutside (ring .n) bus) 10 _ refl (more (tooShort room _) 8 _ refl served))
+list-never state bus room =
+    more (badRecord state) 9 _ refl (more (busOutside (state .ring .n) bus) 10 _ refl (more (tooShort room _) 8 _ refl served))
+
+-- 9 of a ring state, then what else is refused
+state-never : (state : RingState) (k : ℕ) → k ≢ 7 → stateRefusal state k ≢ 7
+unfolding stateRefusal firstMet
+state-never state k p = or-never _ k (more (badRecord state) 9 _ refl served) p
+
+book-never : (state : RingState) (b : Booking) → bookRefusal state b ≢ 7
+unfolding bookRefusal firstMet
+book-never state b =
+    more (badRecord state) 9 _ refl
+    (more (busOutside (state .ring .n) (b .bus)) 10 _ refl
+    (more (wattsOutside (b .watts)) 12 _ refl
+    (more (isLive (liveBookings (state .load)) (b .number)) 13 _ refl (more (noPlace (state .load)) 14 _ refl served))))
+
+cancel-never : (state : RingState) (v : ℕ) → cancelRefusal state v ≢ 7
+unfolding cancelRefusal firstMet
+cancel-never state v = more (badRecord state) 9 _ refl (more (not (isLive (liveBookings (state .load)) v)) 13 _ refl served)
 
 -- ---- the answers
 
@@ -190,6 +247,14 @@ reply-never : (j : ℕ) (ring kept : Ring) (buffer : List ℕ) → j ≢ 7 → o
 unfolding servedReply servedAnswer refusedReply refusedAnswer
 reply-never j ring kept buffer p =
     by-cond (λ (x : Reply). outcomeNumber (x .answer .outcome) ≢ 7) (eqb j 0) (λ t. served) (λ t. p)
+
+by-never : (j : ℕ) (state kept : RingState) (buffer : List ℕ) → j ≢ 7 → outcomeNumber (stateBy j state kept buffer .answer .outcome) ≢ 7
+unfolding servedState refusedState
+by-never j state kept buffer p =
+    by-cond (λ (x : StateReply). outcomeNumber (x .answer .outcome) ≢ 7) (eqb j 0) (λ t. served) (λ t. p)
+
+booking-never : (j : ℕ) (state : RingState) (load : Load) → j ≢ 7 → outcomeNumber (bookingBy j state load .outcome) ≢ 7
+booking-never j state load p = by-cond (λ (x : BookingAnswer). outcomeNumber (x .outcome) ≢ 7) (eqb j 0) (λ t. served) (λ t. p)
 
 named-never : (o : Option Part) → partValues (partAnswer o) .0 ≢ 7
 unfolding partAnswer
@@ -217,12 +282,12 @@ feeds-answer-never : (n : ℕ) (h : Health) (c : Commands) → outcomeNumber (fe
 unfolding feedsAnswer
 feeds-answer-never n h c = outcome-never _ (feeds-never n h)
 
-list-answer-never : (ring : Ring) (bus : ℕ) (buffer : List ℕ) → outcomeNumber (cutSetsReply ring bus buffer .answer .outcome) ≢ 7
+list-answer-never : (state : RingState) (bus : ℕ) (buffer : List ℕ) → outcomeNumber (cutSetsReply state bus buffer .answer .outcome) ≢ 7
 unfolding cutSetsReply servedCutSets refusedCutSets
-list-answer-never ring bus buffer = go (cutSetsRefusal ring bus (length buffer)) (list-never ring bus (length buffer))
+list-answer-never state bus buffer = go (cutSetsRefusal state bus (length buffer)) (list-never state bus (length buffer))
   where
     go : (j : ℕ) → j ≢ 7
-        → outcomeNumber (cond (eqb j 0) (servedCutSets (ringCutSets ring bus) buffer) (refusedCutSets j buffer) .answer .outcome) ≢ 7
+        → outcomeNumber (cond (eqb j 0) (servedCutSets (ringCutSets (state .ring) bus) buffer) (refusedCutSets j buffer) .answer .outcome) ≢ 7
     go j p = by-cond (λ (x : CutSetsReply). outcomeNumber (x .answer .outcome) ≢ 7) (eqb j 0) (λ t. served) (λ t. p)
 
 -- ---- the texts
@@ -311,7 +376,7 @@ scan-text-never i ring s =
 -- ---- "refusal 7 is given to no input any more"
 
 pub never-seven : NeverGiven 7
-unfolding startReply stepReply scanReply
+unfolding stateStart stateStep stateScan bookAnswer cancelAnswer startReply stepReply scanReply
 never-seven = record {
   check-file = file-answer-never;
   ring-after = λ file. outcome-never (fileRefusal file) (file-never file);
@@ -320,9 +385,16 @@ never-seven = record {
   report-at = at-never;
   check-report = λ n r. outcome-never _ (report-never n r);
   feeds = feeds-answer-never;
-  start = λ n buffer. reply-never _ (blankRing n) (blankRing 0) buffer (start-never n (length buffer));
-  step = λ ring r buffer. reply-never _ (told ring r) ring buffer (step-never ring r (length buffer));
-  scan = λ ring s buffer. reply-never _ (toldAll ring (scanReports s)) ring buffer (scan-never ring s (length buffer));
+  start = λ n buffer. by-never _ (unloaded (blankRing n)) (unloaded (blankRing 0)) buffer (start-never n (length buffer));
+  step = λ state r buffer.
+      by-never _ (toldState state (r ∷ [])) state buffer (state-never state _ (step-never (state .ring) r (length buffer)));
+  scan = λ state s buffer.
+      by-never _ (toldState state (scanReports s)) state buffer (state-never state _ (scan-never (state .ring) s (length buffer)));
+  book = λ state b. booking-never _ state (withBooking (state .load) b) (book-never state b);
+  cancel = λ state v. booking-never _ state (withoutBooking (state .load) v) (cancel-never state v);
+  inner-start = λ n buffer. reply-never _ (blankRing n) (blankRing 0) buffer (start-never n (length buffer));
+  inner-step = λ ring r buffer. reply-never _ (told ring r) ring buffer (step-never ring r (length buffer));
+  inner-scan = λ ring s buffer. reply-never _ (toldAll ring (scanReports s)) ring buffer (scan-never ring s (length buffer));
   check = λ n rs. outcome-never _ (first-never n rs);
   write = λ bytes buffer. outcome-never _ (sheet-never (length buffer) bytes);
   list = list-answer-never;
@@ -337,9 +409,20 @@ unfolding fileAnswer fileRefusal firstMet sizeOutside reportsRefusal reportRefus
     partNamed partCode parts below first wordNamed
 example-served = refl
 
--- a started ring of three
-started : Ring
-started = withPlan (blankRing 3)
+-- a started ring of three, without bookings
+started : RingState
+started = unloaded (withPlan (blankRing 3))
+
+-- .. a ring state of two buses
+abbrev small : RingState
+small = unloaded (blankRing 2)
+
+-- .. and with 64 bookings on bus 1
+abbrev booking : ℕ → Booking
+booking v = record { number = v; bus = 1; watts = 1 }
+
+full : RingState
+full = reckoned (started .ring) (record { bookings = map booking (below 64); live = 64; watts = []; «dark_watts» = 0 })
 
 -- a report that 5 meets, and one that 6 meets
 abbrev no-part : Report
@@ -348,15 +431,18 @@ no-part = record { part = Generator 4; word = Fit }
 abbrev no-word : Report
 no-word = record { part = Generator 1; word = StuckOpen }
 
--- every other number of the table is given: document 01's examples, and of document 02 bus 0 and a count of 65
+-- every other number of the table is given: document 01's examples, and of document 02 bus 0, a count of 65, a booking without watts, a
+-- cancellation of what is not live, and a 65th booking
 pub others-given : (NeverGiven 1 → ⊥) × (NeverGiven 2 → ⊥) × (NeverGiven 3 → ⊥) × (NeverGiven 4 → ⊥) × (NeverGiven 5 → ⊥)
-    × (NeverGiven 6 → ⊥) × (NeverGiven 8 → ⊥) × (NeverGiven 9 → ⊥) × (NeverGiven 10 → ⊥) × (NeverGiven 11 → ⊥)
+    × (NeverGiven 6 → ⊥) × (NeverGiven 8 → ⊥) × (NeverGiven 9 → ⊥) × (NeverGiven 10 → ⊥) × (NeverGiven 11 → ⊥) × (NeverGiven 12 → ⊥)
+    × (NeverGiven 13 → ⊥) × (NeverGiven 14 → ⊥)
 unfolding fileAnswer fileRefusal firstMet sizeOutside reportsRefusal reportRefusal reportAnswer reportOf reportConditions notOfRing wordOfOtherKind
-    partNamed partCode parts below first wordNamed outcomeOf sheetRefusal tooShort cutSetsReply cutSetsRefusal badRecord anyOf blankRing
+    partNamed partCode parts below first wordNamed outcomeOf sheetRefusal tooShort cutSetsReply cutSetsRefusal badRing anyOf blankRing
     refusedCutSets started withPlan planned commands onPaths chosen addPath choose permitted isolated countedClosed usable paths pathsFrom
     highRises pathParts pathBreakers pathBusBreakers sources others flatMap connected arc up next samePart allOf keep places healthOf
-    commandsOf healthPlaces commandPlaces healthOutside healthOfKind activeAbove unplanned busOutside scanReply scanRefusal countAbove
-    refusedReply refusedAnswer
+    commandsOf healthPlaces commandPlaces healthOutside healthOfKind activeAbove unplanned busOutside scanRefusal countAbove full
+    unloaded noLoad reckoned withFigures wattsOf totalWatts stateRefusal badRecord badLoad liveTwice isLive bookingOutside wattsOutside
+    otherFigures noPlace stateScan refusedState bookAnswer bookRefusal cancelAnswer cancelRefusal choices choiceOf plan
 others-given = (
   λ never. never .check-file (3 ∷ 0 ∷ []) refl,
   λ never. never .check-file (2 ∷ 0 ∷ 0 ∷ []) refl,
@@ -365,19 +451,22 @@ others-given = (
   λ never. never .check-file (3 ∷ 1 ∷ 0 ∷ 3 ∷ 1 ∷ []) refl,
   λ never. never .check-file (3 ∷ 1 ∷ 0 ∷ 64 ∷ 1 ∷ []) refl,
   λ never. never .write (0 ∷ 0 ∷ []) (0 ∷ []) refl,
-  λ never. never .list (blankRing 2) 1 [] refl,
+  λ never. never .list small 1 [] refl,
   λ never. never .list started 0 [] refl,
   λ never. never .scan started (record { reports = []; count = 65 }) [] refl,
+  λ never. never .book started (record { number = 0; bus = 1; watts = 0 }) refl,
+  λ never. never .cancel started 0 refl,
+  λ never. never .book full (booking 64) refl,
 )
 
 -- every other call and text gives one of them
 pub each-gives : (NeverGiven 1 → ⊥) × (NeverGiven 5 → ⊥) × (NeverGiven 6 → ⊥) × (NeverGiven 5 → ⊥) × (NeverGiven 6 → ⊥)
-    × (NeverGiven 2 → ⊥) × (NeverGiven 2 → ⊥) × (NeverGiven 9 → ⊥) × (NeverGiven 5 → ⊥) × (NeverGiven 1 → ⊥) × (NeverGiven 1 → ⊥)
-    × (NeverGiven 9 → ⊥)
+    × (NeverGiven 2 → ⊥) × (NeverGiven 2 → ⊥) × (NeverGiven 9 → ⊥) × (NeverGiven 2 → ⊥) × (NeverGiven 9 → ⊥) × (NeverGiven 9 → ⊥)
+    × (NeverGiven 5 → ⊥) × (NeverGiven 1 → ⊥) × (NeverGiven 1 → ⊥) × (NeverGiven 9 → ⊥)
 unfolding fileRefusal firstMet sizeOutside reportRefusal reportAnswer reportOf reportConditions notOfRing wordOfOtherKind partAnswer
     wordAnswer partNamed partCode parts below first wordNamed outcomeOf reportAt feedsAnswer feedsRefusal startReply startRefusal stepReply
-    stepRefusal refusedReply refusedAnswer badRecord anyOf blankRing firstRefusal printedRun runLines refusedLines joined printedCutSets
-    scanText scanRefusal
+    stepRefusal refusedReply refusedAnswer badRing anyOf blankRing firstRefusal printedRun runLines refusedLines joined printedCutSets
+    scanText scanReply scanRefusal stateStart stateStep stateRefusal refusedState badRecord unloaded
 each-gives = (
   λ never. never .ring-after (3 ∷ 0 ∷ []) refl,
   λ never. never .part-of 3 3 refl,
@@ -386,7 +475,10 @@ each-gives = (
   λ never. never .check-report 3 no-word refl,
   λ never. never .feeds 2 (blankRing 2 .health) (blankRing 2 .commands) refl,
   λ never. never .start 2 [] refl,
-  λ never. never .step (blankRing 2) no-part [] refl,
+  λ never. never .step small no-part [] refl,
+  λ never. never .inner-start 2 [] refl,
+  λ never. never .inner-step (blankRing 2) no-part [] refl,
+  λ never. never .inner-scan (blankRing 2) (record { reports = []; count = 0 }) [] refl,
   λ never. never .check 3 (no-part ∷ []) refl,
   λ never. never .printed-run (3 ∷ 0 ∷ []) (append-nil (refusedText 1)),
   λ never. never .printed-cut-sets (3 ∷ 0 ∷ []) refl,

@@ -1,0 +1,3 @@
+-- The laws of the live bookings.
+pub mod Live
+pub mod Kept

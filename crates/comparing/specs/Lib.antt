@@ -1,0 +1,2 @@
+-- What is compared place by place.
+pub mod Comparing
