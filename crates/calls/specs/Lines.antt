@@ -11,7 +11,7 @@ use Rattle.model.specs.Reports.{withPlan}
 use Rattle.model.specs.Sheet.{written}
 use Rattle.model.specs.Refusals.{badRing}
 use Rattle.model.specs.Text.{transitionLine}
-use Rattle.model.specs.ScanText.{scanText, scanState}
+use Rattle.model.specs.ScanText.{scanText, scanRing}
 
 -- a text stands in the front of a lent buffer: the buffer before and after, and the text's length
 pub record Stored (text before after : List ℕ) (size : ℕ) : Type 0 where
@@ -33,12 +33,12 @@ stored-fits {text} {before} s same =
 
 -- line i of a ring that was told its reports stands there, and next is the ring behind it
 pub record Shown (i : ℕ) (ring : Ring) (before after : List ℕ) (next : Ring) (size : ℕ) : Type 0 where
-  pub state : next ≡ withPlan ring
+  pub ring-is : next ≡ withPlan ring
   pub stored : Stored (transitionLine i ring) before after size
 
 -- the text of a scan stands there, line i or its refusal, and next is the ring behind it, which is a good one
 pub record Answered (i : ℕ) (ring : Ring) (s : Scan) (before after : List ℕ) (next : Ring) (size : ℕ) : Type 0 where
-  pub state : next ≡ scanState ring s
+  pub ring-is : next ≡ scanRing ring s
   pub good : badRing next ≡ false
   pub stored : Stored (scanText i ring s) before after size
 

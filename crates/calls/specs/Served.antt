@@ -23,7 +23,7 @@ use Rattle.model.specs.Refusals.{firstMet, tooShort, badRing, nextSheet, report
 use Rattle.model.specs.Answers.{Reply, refusedAnswer, refusedReply, servedAnswer, servedReply, startReply, stepReply}
 use Rattle.model.specs.Text.{transitionLine, refusedText}
 use Rattle.model.specs.Scans.{scanReports, toldAll, scanRefusal, scanReply}
-use Rattle.model.specs.ScanText.{sheetRoom, scanText, scanState}
+use Rattle.model.specs.ScanText.{sheetRoom, scanText, scanRing}
 use Rattle.model.specs.Laws.Sheet.{sheetOf-length}
 use Rattle.model.specs.Laws.Refusals.{inside, good-size, served-refused}
 use Rattle.model.specs.Laws.Scans.{told-size}
@@ -98,7 +98,7 @@ module _ (ring : Ring) (small : ring .n ≤ largest) (buffer : List ℕ) where
           → Shown i ring before out (a .ring) size
       shown i before out size e f =
           let t : sheetLine i (ring .n) (a .choices) after ≡ transitionLine i ring = rw (given .0, given .1) (transition-line i) in
-          record { state = rw (given .0); stored = record { bytes = rw t at e; sized = rw t at f } }
+          record { ring-is = rw (given .0); stored = record { bytes = rw t at e; sized = rw t at f } }
 
 -- ---- with a buffer of 122 bytes every start of a ring's size is served, and every step whose report is not refused
 
@@ -191,12 +191,12 @@ module _ (ring : Ring) (good : badRing ring ≡ false) (s : Scan) (buffer : List
         → out ≡ written (sheetLine j (ring .n) (a .choices) after) before
         → size ≡ length (sheetLine j (ring .n) (a .choices) after)
         → Answered i ring s before out (a .ring) size
-    unfolding scanText scanState
+    unfolding scanText scanRing
     scan-served j i before out size same-number e f =
         let same = told-size ring (scanReports s) in
         let t = scan-given .shown i before out size (rw (same, ← same-number) e) (rw (same, ← same-number) f) in
         let z = number-is 0 (ap outcomeNumber served) in
-        record { state = rw z (t .state); good = next-good-scan; stored = rw z (t .stored) }
+        record { ring-is = rw z (t .ring-is); good = next-good-scan; stored = rw z (t .stored) }
 
   module _ (k : ℕ) (refused : a .outcome ≡ Refused k) where
     refusal-is : scanRefusal ring s sheetRoom ≡ k
@@ -212,11 +212,11 @@ module _ (ring : Ring) (good : badRing ring ≡ false) (s : Scan) (buffer : List
 
     pub scan-unserved : (j i : ℕ) (before out : List ℕ) (size : ℕ) → j ≡ k → out ≡ written (refusedText j) before
         → size ≡ length (refusedText j) → Answered i ring s before out (a .ring) size
-    unfolding scanText scanState
+    unfolding scanText scanRing
     scan-unserved j i before out size same e f =
         let z = ne-eqb k 0 not-served in
         record {
-          state = rw (refusal-is, z) kept;
+          ring-is = rw (refusal-is, z) kept;
           good = next-good-scan;
           stored = rw (refusal-is, z, ← same) (record { bytes = e; sized = f });
         }

@@ -33,7 +33,7 @@ use Rattle.model.specs.Text.{
   runLines,
   printedRun,
   runLeft,
-  stateAt,
+  ringAt,
   cursorAt,
   Within,
 }
@@ -156,12 +156,12 @@ goes-on f k p h = go (dec-eq (fileRefusal f) 0)
 
 -- a cursor of the run of a file
 module _ {f : List ℕ} {c : RunCursor} (w : Within f c) where
-  state-is : c .ring ≡ stateAt f (c .place)
+  state-is : c .ring ≡ ringAt f (c .place)
   unfolding cursorAt
   state-is = ap (λ (x : RunCursor). x .ring) (w .cursor)
 
-  pub first-state : c .place ≡ 0 → c .ring ≡ stateAt f 0
-  first-state e = state-is ∙ ap (stateAt f) e
+  pub first-state : c .place ≡ 0 → c .ring ≡ ringAt f 0
+  first-state e = state-is ∙ ap (ringAt f) e
 
   pub behind-first : c .place ≢ 0 → (fileRefusal f ≡ 0) × (c .place ≤ fileCount f + 1)
   behind-first ne =
@@ -169,8 +169,8 @@ module _ {f : List ℕ} {c : RunCursor} (w : Within f c) where
       (served, omega (arith, w .more, lines-length f served))
 
   pub report-state : (i : ℕ) → c .place ≡ i + 2 → c .ring ≡ withPlan (runRing f i)
-  unfolding stateAt
-  report-state i e = state-is ∙ ap (stateAt f) (e ∙ add-two i)
+  unfolding ringAt
+  report-state i e = state-is ∙ ap (ringAt f) (e ∙ add-two i)
 
 -- no line is empty
 line-some : (i : ℕ) (ring : Ring) → 0 < length (transitionLine i ring)
@@ -189,18 +189,18 @@ refused-some k = omega arith
 
 module _ {f before after : List ℕ} {ring : Ring} {size : ℕ} {p : RunPiece} where
   -- at the first the refusal ..
-  pub passed-refused : (k : ℕ) → fileAnswer f ≡ file.Refused k → ring ≡ stateAt f 0 → Stored (refusedText k) before after size
+  pub passed-refused : (k : ℕ) → fileAnswer f ≡ file.Refused k → ring ≡ ringAt f 0 → Stored (refusedText k) before after size
       → p ≡ record { cursor = record { place = 1; ring = ring }; length = size; more = false } → Passed f 0 before after p
-  unfolding cursorAt stateAt refusedLines
+  unfolding cursorAt ringAt refusedLines
   passed-refused k a e s is =
       let t = answer-refused f k a in
       let l : runLines f ≡ refusedText k ∷ [] = rw (t .1) (refused-line f (t .0)) in
       rw is (record { cursor = rw e; stored = rw l s; some = omega (arith, s .sized, refused-some k); more = rw l })
 
   -- .. or the header
-  pub passed-header : (n m : ℕ) → fileAnswer f ≡ file.Served n m → ring ≡ stateAt f 0 → Stored (header n m) before after size
+  pub passed-header : (n m : ℕ) → fileAnswer f ≡ file.Served n m → ring ≡ ringAt f 0 → Stored (header n m) before after size
       → p ≡ record { cursor = record { place = 1; ring = ring }; length = size; more = true } → Passed f 0 before after p
-  unfolding cursorAt stateAt
+  unfolding cursorAt ringAt
   passed-header n m a e s is =
       let t = answer-served f n m a in
       rw is (record {
@@ -214,10 +214,10 @@ module _ {f before after : List ℕ} {ring : Ring} {size : ℕ} {p : RunPiece} w
   pub passed-line : (i k next lines : ℕ) → fileRefusal f ≡ 0 → i ≤ fileCount f → Shown i (runRing f i) before after ring size
       → p ≡ record { cursor = record { place = next; ring = ring }; length = size; more = ltb (k + 1) lines }
       → k ≡ i + 1 → next ≡ k + 1 → lines ≡ fileCount f + 2 → Passed f k before after p
-  unfolding cursorAt stateAt
+  unfolding cursorAt ringAt
   passed-line i k next lines served h s is e a l =
       rw (is, a, add-one, e, add-one) (record {
-        cursor = rw (s .state);
+        cursor = rw (s .ring-is);
         stored = rw (line-at f served i h) (s .stored);
         some = omega (arith, s .stored .sized, line-some i (runRing f i));
         more = rw (l, lines-length f served);
@@ -237,5 +237,5 @@ lines-some f = go (eqb (fileRefusal f) 0)
 pub at-beginning : {ring : Ring} → ring ≡ blankRing 0
     → let c : RunCursor = record { place = 0; ring = ring } in
     (c ≡ record { place = 0; ring = blankRing 0 }) × ((f : List ℕ) → Within f c × (runLeft f (c .place) ≡ printedRun f))
-unfolding cursorAt stateAt runLeft printedRun
+unfolding cursorAt ringAt runLeft printedRun
 at-beginning e = (rw e, λ f. (record { cursor = rw e; more = lines-some f }, refl))

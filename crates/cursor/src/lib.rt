@@ -4,7 +4,7 @@ ghost use Prim.Native.Nat.{_+_, _<_, _≤_};
 ghost use lib.ListN.{length};
 ghost use Rattle.model.specs.Reports.{fileCount, withPlan};
 ghost use Rattle.model.specs.Refusals.{fileRefusal};
-ghost use Rattle.model.specs.Text.{runRing, stateAt, Within, lineRoom};
+ghost use Rattle.model.specs.Text.{runRing, ringAt, Within, lineRoom};
 ghost use Rattle.calls.specs.Lines.{Shown};
 ghost use Rattle.cursor.specs.Passed.{Passed};
 use calls::Line;
@@ -44,7 +44,7 @@ fn piece_of(line: Line, place: usize, more: bool) -> RunPiece
 
 // The first line of a run: the refusal, or the header.
 fn first_line(ring: Ring, file: &[u8], out: &mut [u8]) -> RunPiece
-    requires { ⌜ (ring ≡ stateAt (now file) 0) × (lineRoom ≤ length (now out)) ⌝ }
+    requires { ⌜ (ring ≡ ringAt (now file) 0) × (lineRoom ≤ length (now out)) ⌝ }
     ensures { λ r. ⌜ Passed (now (file .entry)) 0 (now (out .entry)) (now (out .exit)) r ⌝ }
 {
     match files::check_file(file) {

@@ -53,7 +53,7 @@ fn planned(ring: Ring) -> Ring
 pub fn ring_after(file: &[u8]) -> LatestAnswer
     ensures answer { λ r. ⌜ r .outcome ≡ outcomeOf (fileRefusal (now (file .entry))) ⌝ }
     ensures number { λ r. ⌜ outcomeNumber (r .outcome) ≡ fileRefusal (now (file .entry)) ⌝ }
-    ensures state { λ r. ⌜ r .ring ≡ latestRing (now (file .entry)) ⌝ }
+    ensures ring { λ r. ⌜ r .ring ≡ latestRing (now (file .entry)) ⌝ }
 {
     match files::check_file(file) {
         FileAnswer::Refused(k) => {

@@ -20,5 +20,5 @@ scanText i ring s =
     cond (eqb k 0) (transitionLine i (toldAll ring (scanReports s))) (refusedText k)
 
 -- the ring behind it
-unfoldable pub scanState : Ring → Scan → Ring
-scanState ring s = cond (eqb (scanRefusal ring s sheetRoom) 0) (withPlan (toldAll ring (scanReports s))) ring
+unfoldable pub scanRing : Ring → Scan → Ring
+scanRing ring s = cond (eqb (scanRefusal ring s sheetRoom) 0) (withPlan (toldAll ring (scanReports s))) ring

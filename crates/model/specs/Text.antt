@@ -130,14 +130,14 @@ unfoldable pub runLeft : List ℕ → ℕ → List ℕ
 runLeft f k = joined (drop k (runLines f))
 
 -- the ring behind the first k lines: none before line 0, which is the second; then that after the plan of the line before
-unfoldable pub stateAt : List ℕ → ℕ → Ring
-stateAt f zero = blankRing 0
-stateAt f (suc zero) = blankRing 0
-stateAt f (suc (suc i)) = withPlan (runRing f i)
+unfoldable pub ringAt : List ℕ → ℕ → Ring
+ringAt f zero = blankRing 0
+ringAt f (suc zero) = blankRing 0
+ringAt f (suc (suc i)) = withPlan (runRing f i)
 
 -- the cursor behind the first k lines
 unfoldable pub cursorAt : List ℕ → ℕ → RunCursor
-cursorAt f k = record { place = k; ring = stateAt f k }
+cursorAt f k = record { place = k; ring = ringAt f k }
 
 -- a cursor of the run of a file, of which something is left
 pub record Within (f : List ℕ) (c : RunCursor) : Type 0 where

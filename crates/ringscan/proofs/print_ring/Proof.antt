@@ -36,7 +36,7 @@ print-scans-requires c κs =
     let d = c .before .before .before .before .before .before .before in
     let s = d .before .before in
     let size = size-bounds _ (sym (s .before .size-outside .ensures) ∙ s .if1 .left) in
-    (rw (d .start-line .ensures .state) (start-good _ (omega (arith, size .0)) (omega (arith, size .1))), search needs)
+    (rw (d .start-line .ensures .ring-is) (start-good _ (omega (arith, size .0)) (omega (arith, size .1))), search needs)
 
 pub print-ring-spec : {M : Type 1} → statement M
 print-ring-spec =
