@@ -219,6 +219,10 @@ anyClash n P = anyOf (λ b. isClash (busFeed n (P .health) (P .last) b)) (below 
 unfoldable pub otherLive : World → Bool
 otherLive W = differ (bookingsDigest (liveBookings (W .state .load))) (bookingsDigest (W .history .live))
 
+-- the record counts others than are live
+unfoldable pub otherCount : World → Bool
+otherCount W = differ (W .state .load .live) (length (W .history .live))
+
 -- a generator's watts are not those of the live bookings on the buses that the plant has it feed
 unfoldable pub otherWatts : ℕ → World → ℕ → Bool
 otherWatts n W g =
@@ -284,7 +288,7 @@ pub data Claim3 : Type 0 where
   dark-exactly lit-exactly energized de-energized : Claim3
   size health standing health-above commands-above : Claim3
   clash-in-start-first clash-in-start-second clash-in-first clash-in-second clash-between : Claim3
-  bookings watts watts-above dark-watts sums : Claim3
+  bookings live watts watts-above dark-watts sums : Claim3
   booking-only booking-always booking-record-kept : Claim3
 
 -- each claim of demand 2, by its field; `closes-outward` is `second-is`
@@ -377,6 +381,7 @@ module _ (c : Controller) (i : Instance) where
   fails3 clash-in-second = atPhases (λ P. clashInSecond (i .size) (i .backward) (i .done) P)
   fails3 clash-between = atEnd (λ W. anyClash (i .size) (W .plant))
   fails3 bookings = atLast otherLive
+  fails3 live = atLast otherCount
   fails3 watts = atLast (λ W. anyOf (otherWatts (i .size) W) (below (i .size)))
   fails3 watts-above = atLast (λ W. anyOf (wattsAbove (i .size) W) (below largest))
   fails3 dark-watts = atLast (otherDarkWatts (i .size))

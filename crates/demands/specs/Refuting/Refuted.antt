@@ -127,6 +127,7 @@ use Rattle.demands.specs.Refuting.Claims.{
   unfitAbove,
   onAbove,
   otherLive,
+  otherCount,
   otherWatts,
   wattsAbove,
   otherDarkWatts,
@@ -421,6 +422,10 @@ module _ {n : ℕ} {W : World} (l : LoadGiven n W) where
   unfolding otherLive
   bookings-sound e = unequal _ _ (ap bookingsDigest (l .bookings)) e
 
+  live-sound : otherCount W ≡ true → ⊥
+  unfolding otherCount
+  live-sound e = unequal _ _ (l .live) e
+
   watts-sound : anyOf (otherWatts n W) (below n) ≡ true → ⊥
   unfolding otherWatts
   watts-sound e = let t = some-bus n (otherWatts n W) e in unequal _ _ (l .watts (t .0) (t .1)) (t .2)
@@ -672,6 +677,7 @@ module _ (c : Controller) (i : Instance) (d : Demand3 c) where
       let t = at-end c i (λ W. anyClash N (W .plant)) e in
       clash-sound N (t .0 .plant) (after (t .1) .no-clash (between (longer whole) (t .1))) (t .2)
   refutes3 claim.bookings e = let t = at-last c i otherLive e in bookings-sound (load-in (t .1)) (t .2)
+  refutes3 claim.live e = let t = at-last c i otherCount e in live-sound (load-in (t .1)) (t .2)
   refutes3 claim.watts e =
       let t = at-last c i (λ W. anyOf (otherWatts N W) (below N)) e in watts-sound (load-in (t .1)) (t .2)
   refutes3 claim.watts-above e =

@@ -348,8 +348,9 @@ fedByNone (feed.Clash g h) = false
 
 -- what the record gives of bookings (Note 5), held against history and the plant; a figure's index is its generator's number less 1
 pub record LoadGiven (n : ℕ) (W : World) : Type 0 where
-  -- "The ring record holds the live bookings"
+  -- "The ring record holds the live bookings", and says how many they are
   pub bookings : liveBookings (W .state .load) ≡ W .history .live
+  pub live : W .state .load .live ≡ length (W .history .live)
   -- "it gives every generator's watts, .. equal to those of the live bookings on the buses it feeds"
   pub watts : (g : ℕ) → g < n
       → getD (W .state .load .watts) g 0 ≡ totalWatts (keep (λ b. fedBy (suc g) (feedOf n (W .plant) b)) (W .history .live))

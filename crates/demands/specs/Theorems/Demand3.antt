@@ -101,7 +101,7 @@ use Rattle.demands.specs.Proofs.Steady.{
 use Rattle.demands.specs.Controller.{controller}
 use Rattle.demands.specs.Proofs.Answering as answering
 use Rattle.demands.specs.Proofs.Answering.{start-served, start-fine, start-answered, start-ready, call-ready, call-served}
-use Rattle.demands.specs.Proofs.Loads.{figures-sum}
+use Rattle.demands.specs.Proofs.Loads.{live-count, figures-sum}
 use Rattle.demands.specs.Proofs.Standing.{same-phases, Stands, stands-good, booking-answered, ended-stands}
 
 -- ---- what is shown
@@ -205,6 +205,7 @@ module _ {n : ℕ} {W : World} (small : n ≤ largest) (s : Stands n W) where
   unfolding wattsOf
   load-given = record {
     bookings = s .loaded .live;
+    live = sym (live-count (s .loaded));
     watts = λ g h. figure g (omega arith)
         ∙ ap totalWatts (keep-ext (λ b. eqb (bookingSource (W .shown) b) (suc g)) (λ b. fedBy (suc g) (feedOf n (W .plant) b)) (W .history .live) (fed-shown g));
     watts-above = λ g h. above g h (dec-lt g largest);

@@ -1,0 +1,1 @@
+// Controllers made of a design, and the right one spoilt in a reply: definitions and theorems alone, in specs/.
