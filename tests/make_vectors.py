@@ -983,7 +983,7 @@ def scans_text(n, calls):
     return "".join(lines)
 
 
-# What a call of ringload is, by the word that it is printed with: its kind, and the bytes that it takes.
+# What a call of ringload is, by a word for it: its kind, and the bytes that it takes.
 LOAD_CALLS = {
     "report": (0, report_bytes),
     "scan": (1, lambda *reports: scans_file(0, [reports])[1:]),
@@ -999,12 +999,12 @@ def loads_file(n, calls):
 
 
 def load_answers(n, calls):
-    """The simulation's answers to the start and to calls, each with the record that the call before it gave: the word, the refusal, the
-    record, and the line of the run without its number, where the call has one."""
+    """The simulation's answers to the start and to calls, each with the record that the call before it gave: the refusal, the record, and
+    the line of the run without its number, where the call has one."""
     sheet = bytearray(rs.LONGEST_SHEET)
     answer = sim.start(n, sheet)
-    record, word, refusal, switched = answer.record, "start", answer.refusal, answer
-    yield word, refusal, record, "" if refusal else rs.line_of_run(0, n, answer.choices, sheet)[2:-1]
+    record, refusal, switched = answer.record, answer.refusal, answer
+    yield refusal, record, "" if refusal else rs.line_of_run(0, n, answer.choices, sheet)[2:-1]
     for word, *taken in calls if not refusal else []:
         if word in ("book", "cancel"):
             refusal, record = getattr(sim, word)(record, *taken)
@@ -1012,7 +1012,7 @@ def load_answers(n, calls):
         else:
             switched = sim.step(record, *taken, sheet) if word == "report" else sim.scan(record, taken, len(taken), sheet)
             refusal, record = switched.refusal, switched.record
-        yield word, refusal, record, rs.line_of_run(0, n, switched.choices, sheet)[2:-1] if switched and not refusal else ""
+        yield refusal, record, rs.line_of_run(0, n, switched.choices, sheet)[2:-1] if switched and not refusal else ""
 
 
 def figures_text(record):
@@ -1022,9 +1022,7 @@ def figures_text(record):
 
 def loads_text(n, calls):
     """What ringload prints."""
-    lines = ["refused %d" % refusal if refusal else "%s%s / %s" % (word, run and " " + run, figures_text(record))
-             for word, refusal, record, run in load_answers(n, calls)]
-    return "\n".join(lines) + "\n"
+    return "".join("refused %d\n" % refusal if refusal else figures_text(record) + "\n" for refusal, record, _ in load_answers(n, calls))
 
 
 def gate_plant():

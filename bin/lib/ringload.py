@@ -151,27 +151,33 @@ def program_input(size, calls):
 
 
 class Answer:
-    """A line that the program printed: its refusal, 0 where there is none, the run's line where it has one, and its figures, one a column."""
+    """A line that the program printed: its refusal, 0 where there is none, and its figures, one a column."""
 
     def __init__(self, line):
-        word, _, rest = line.partition(" ")
-        parts = rest.split(" / ")
-        self.number = int(rest) if word == "refused" else 0
-        self.run = " / ".join(parts[:3]) if len(parts) > 3 else ""
-        self.columns = re.findall(r"(?:G[0-9]+|dark) [0-9]+", parts[-1]) or [line]
+        self.number = int(line.split(" ")[1]) if line.startswith("refused ") else 0
+        self.columns = [line] if self.number else re.findall("[^ ]+ [0-9]+", line)
 
 
-def laid_out(texts, answers, with_run):
-    """The calls in words and their answers, in columns. A refusal stands across them."""
+def run_of(size, calls):
+    """The run's line of the start, of each report and of each scan, none where it is refused: that of ringscan's program, since bookings and
+    cancellations do nothing to it; and none for these."""
+    switching = [call.call for call in calls if call.kind in (REPORT, SCAN)]
+    lines = iter(ringtools.output_of("ringscan", faultlines.scan_cases(size, switching), "ringload").decode().splitlines())
+    called = [next(lines, "") if kind in (REPORT, SCAN) else "" for kind in [SCAN] + [call.kind for call in calls]]
+    return ["" if line.startswith("refused ") else line.partition(" ")[2] for line in called]
+
+
+def laid_out(texts, answers, run_lines):
+    """The calls in words and their answers, in columns, and behind each its line of the run. A refusal stands across the columns."""
     figures = [answer.columns for answer in answers if not answer.number]
     widths = [max(map(len, column)) for column in zip(*figures)]
     first = max(map(len, texts)) + 3
     lines = []
-    for text, answer in zip(texts, answers):
+    for text, answer, line in zip(texts, answers, run_lines):
         columns = answer.columns if answer.number else [c.ljust(width) for c, width in zip(answer.columns, widths)]
         lines.append((text.ljust(first) + "  ".join(columns)).rstrip())
-        if with_run and answer.run:
-            lines.append("    " + answer.run)
+        if line:
+            lines.append("    " + line)
     return "\n".join(lines) + "\n"
 
 
@@ -190,7 +196,8 @@ def run(arguments):
     output = ringtools.output_of("ringload", program_input(size, calls), "ringload")
     answers = [Answer(line) for line in output.decode().splitlines()]
     texts = ["ring %d" % size] + [call.text() for call in calls]
-    ringtools.write_output(laid_out(texts[:len(answers)], answers, bool(options)).encode())
+    run_lines = run_of(size, calls) if options else [""] * len(texts)
+    ringtools.write_output(laid_out(texts[:len(answers)], answers, run_lines).encode())
     explain(size, calls, answers)
     return ringtools.REFUSED if any(answer.number for answer in answers) else ringtools.SERVED
 

@@ -201,10 +201,10 @@ def simulated_loads(data, with_run=False):
     texts = ["ring %d" % size] + [call.text() for call in calls]
     answers = list(make_vectors.load_answers(size, map(load_call, calls)))
     figures = [["G%d %d" % figure for figure in enumerate(record.watts[:size], start=1)] + ["dark %d" % record.dark_watts]
-               for _, _, record, _ in answers]
-    wide = [max(len(row[k]) for row, answer in zip(figures, answers) if not answer[1]) for k in range(size + 1) if not answers[0][1]]
+               for _, record, _ in answers]
+    wide = [max(len(row[k]) for row, answer in zip(figures, answers) if not answer[0]) for k in range(size + 1) if not answers[0][0]]
     text = ""
-    for words, row, (_, refusal, _, line) in zip(texts, figures, answers):
+    for words, row, (refusal, _, line) in zip(texts, figures, answers):
         columns = ["refused %d" % refusal] if refusal else ["%-*s" % pair for pair in zip(wide, row)]
         text += "%-*s   %s" % (max(map(len, texts[:len(answers)])), words, "  ".join(columns).rstrip()) + "\n"
         text += "    %s\n" % line if line and with_run else ""

@@ -1,35 +1,15 @@
 -- A call's line in the front of a lent buffer. Reports are counted from 0.
-use mathlib.Core.Path.{_≡_, ap}
+use mathlib.Core.Path.{_≡_}
 use mathlib.Core.Bool.{false}
 use mathlib.Core.List.{List}
-use Prim.Native.Nat.{ℕ, _≤_}
-use native.Mathlib.Omega.{arith}
-use lib.ListN.{length, drop, length-append, length-drop}
+use Prim.Native.Nat.{ℕ}
 use Rattle.model.specs.declared.Ring.{Ring}
 use Rattle.model.specs.declared.Scan.{Scan}
 use Rattle.model.specs.Reports.{withPlan}
-use Rattle.model.specs.Sheet.{written}
 use Rattle.model.specs.Refusals.{badRing}
 use Rattle.model.specs.Text.{transitionLine}
 use Rattle.model.specs.ScanText.{scanText, scanRing}
-
--- a text stands in the front of a lent buffer: the buffer before and after, and the text's length
-pub record Stored (text before after : List ℕ) (size : ℕ) : Type 0 where
-  pub bytes : after ≡ written text before
-  pub sized : size ≡ length text
-
--- it has no more bytes than the buffer, which keeps its length
-pub stored-fits : {text before after : List ℕ} {size : ℕ} → Stored text before after size → length after ≡ length before
-    → size ≤ length after
-unfolding written
-stored-fits {text} {before} s same =
-    omega (
-      arith,
-      s .sized,
-      ap length (s .bytes),
-      length-append text (drop (length text) before),
-      length-drop (length text) before,
-    )
+use Rattle.model.specs.Laws.Appended.{Stored}
 
 -- line i of a ring that was told its reports stands there, and next is the ring behind it
 pub record Shown (i : ℕ) (ring : Ring) (before after : List ℕ) (next : Ring) (size : ℕ) : Type 0 where

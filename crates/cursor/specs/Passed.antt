@@ -6,7 +6,7 @@ use lib.Dec.{ltb}
 use lib.ListN.{length, getD}
 use Rattle.model.specs.declared.RunPiece.{RunPiece}
 use Rattle.model.specs.Text.{runLines, cursorAt}
-use Rattle.calls.specs.Lines.{Stored}
+use Rattle.model.specs.Laws.Appended.{Stored}
 
 -- the line at place k of a file's run stands there
 pub record Passed (f : List ℕ) (k : ℕ) (before after : List ℕ) (p : RunPiece) : Type 0 where

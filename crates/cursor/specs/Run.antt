@@ -39,9 +39,10 @@ use Rattle.model.specs.Text.{
 }
 use Rattle.model.specs.Laws.Tests.{dec-eq}
 use Rattle.model.specs.Laws.Lists.{below-length, map-below-at}
+use Rattle.model.specs.Laws.Appended.{Stored}
 use Rattle.model.specs.Laws.Reports.{ReadOrRefused, read-or-refused}
 use Rattle.files.specs.Served.{or-else, file-served, answer-refused, answer-served, stretches, counted}
-use Rattle.calls.specs.Lines.{Stored, Shown}
+use Rattle.calls.specs.Lines.{Shown}
 use Rattle.calls.specs.Served.{start-good, next-good}
 use Rattle.cursor.specs.Passed.{Passed}
 

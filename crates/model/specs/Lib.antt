@@ -16,3 +16,4 @@ pub mod CutSets
 pub mod CutText
 pub mod Scans
 pub mod ScanText
+pub mod LoadText

@@ -62,3 +62,18 @@ pub fn append_large(k: usize, out: &mut [u8], at: usize) -> usize
     out[end] = b'0' + (k % 10) as u8;
     end + 1
 }
+
+// A number of at most ten digits: the number of its tens, then its last digit. It calls itself at most five times. It also tells how far
+// the digits reach at most: a caller that reads its number from an array knows no bound of it.
+pub fn append_whole(k: u32, out: &mut [u8], at: usize) -> usize
+    requires { ⌜ at + 10 ≤ length (now out) ⌝ }
+    ensures text { λ r. ⌜ Appended (decimal k) (now (out .entry)) at (now (out .exit)) r ⌝ }
+    ensures within { λ r. ⌜ r ≤ at + 10 ⌝ }
+{
+    if k < 100000 {
+        return append_large(k as usize, out, at);
+    }
+    let last = append_whole(k / 10, out, at);
+    out[last] = b'0' + (k % 10) as u8;
+    last + 1
+}

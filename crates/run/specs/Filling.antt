@@ -14,7 +14,7 @@ use Rattle.model.specs.declared.RunPiece.{RunPiece}
 use Rattle.model.specs.Sheet.{written}
 use Rattle.model.specs.Text.{runLines, joined, runLeft, cursorAt, Within}
 use Rattle.model.specs.Laws.Tests.{contra}
-use Rattle.calls.specs.Lines.{Stored}
+use Rattle.model.specs.Laws.Appended.{Stored}
 use Rattle.cursor.specs.Passed.{Passed}
 
 -- the lines from place k of a file's run up to a cursor stand there; where nothing is left or no room, there is one
@@ -30,7 +30,7 @@ pub left-shorter : {left : List ℕ} (out rest : List ℕ) (k : ℕ) → left �
     → length rest < length left
 left-shorter out rest k e p h = omega (arith, ap length e, length-append (take k out) rest, length-take-le k out h)
 
--- what was stored is in front, the rest keeps its values, and all fits
+-- what was stored is in front, and the rest keeps its values
 pub stored-front : {text before after : List ℕ} {size : ℕ} → Stored text before after size → take size after ≡ text
 unfolding written
 stored-front {text} {before} s = rw (s .bytes, s .sized) (take-append-seam text (drop (length text) before))
@@ -38,10 +38,6 @@ stored-front {text} {before} s = rw (s .bytes, s .sized) (take-append-seam text 
 pub stored-kept : {text before after : List ℕ} {size : ℕ} → Stored text before after size → drop size after ≡ drop size before
 unfolding written
 stored-kept {text} {before} s = rw (s .bytes, s .sized) (drop-append-seam text (drop (length text) before))
-
-pub stored-fits : {text before after : List ℕ} {size : ℕ} → Stored text before after size → size ≤ length after
-unfolding written
-stored-fits {text} {before} s = rw (s .bytes, s .sized) (omega (arith, length-append text (drop (length text) before)))
 
 pub stored-none : (buffer : List ℕ) → Stored [] buffer buffer 0
 unfolding written

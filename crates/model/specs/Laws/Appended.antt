@@ -55,3 +55,13 @@ module _ {xs l l′ : List ℕ} {j : ℕ} (a : Appended xs l 0 l′ j) (h : leng
   pub appended-front : take j l′ ≡ xs
   unfolding written
   appended-front = rw (appended-written, a .end, zero-add) (take-append-seam xs (drop (length xs) l))
+
+-- a text stands in the front of a lent buffer: the buffer before and after, and the text's length
+pub record Stored (text before after : List ℕ) (size : ℕ) : Type 0 where
+  pub bytes : after ≡ written text before
+  pub sized : size ≡ length text
+
+-- it has no more bytes than the buffer
+pub stored-fits : {text before after : List ℕ} {size : ℕ} → Stored text before after size → size ≤ length after
+unfolding written
+stored-fits {text} {before} s = rw (s .bytes, s .sized) (omega (arith, length-append text (drop (length text) before)))

@@ -3,8 +3,8 @@ use mathlib.Core.Path.{sym, _∙_}
 use native.Mathlib.Omega.{arith}
 use lib.Seq.{length-take-le}
 use borrow.Author.Needs.{needs}
+use Rattle.model.specs.Laws.Appended.{stored-fits}
 use Rattle.model.specs.Laws.Refusals.{size-bounds}
-use Rattle.calls.specs.Lines.{stored-fits}
 use Rattle.calls.specs.Served.{start-good}
 use Rattle.ringscan.proofs.print_ring.Statement.{statement}
 use Rattle.ringscan.proofs.print_ring.Tie as tie
@@ -13,7 +13,7 @@ use Rattle.ringscan.proofs.print_ring.Tie as tie
 refused-prefix : tie.Need-slice-reshare-prefix-write-all
 refused-prefix c =
     let t = c .before .before .refused-text .ensures in
-    stored-fits (record { bytes = t .0; sized = t .1 }) (search needs)
+    stored-fits (record { bytes = t .0; sized = t .1 })
 
 refused-slice : tie.Need-slice-aggregate-write-all
 refused-slice c = sym (length-take-le _ _ (refused-prefix (c .before)))
@@ -26,7 +26,7 @@ start-line-requires c κs =
 
 -- the start's line
 start-prefix : tie.Need-slice-reshare-prefix-write-all-2
-start-prefix c = stored-fits (c .before .before .before .start-line .ensures .stored) (search needs)
+start-prefix c = stored-fits (c .before .before .before .start-line .ensures .stored)
 
 start-slice : tie.Need-slice-aggregate-write-all-2
 start-slice c = sym (length-take-le _ _ (start-prefix (c .before)))

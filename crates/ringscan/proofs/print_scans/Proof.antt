@@ -7,7 +7,7 @@ use lib.Seq.{length-take-le}
 use borrow.Author.Needs.{needs}
 use Rattle.model.specs.Refusals.{badRing}
 use Rattle.model.specs.Text.{lineRoom}
-use Rattle.calls.specs.Lines.{stored-fits}
+use Rattle.model.specs.Laws.Appended.{stored-fits}
 use Rattle.ringscan.proofs.print_scans.Statement.{statement}
 use Rattle.ringscan.proofs.print_scans.Tie as tie
 
@@ -18,10 +18,10 @@ abbrev μ-loop : tie.MeasureT-loop
 μ-loop out₀ ring₀ i₀ said out ring i = 10000 - i
 
 slice-reshare-prefix-write-all : tie.Need-slice-reshare-prefix-write-all Inv-loop μ-loop
-slice-reshare-prefix-write-all c = stored-fits (c .before .before .scan-text .ensures .stored) (search needs)
+slice-reshare-prefix-write-all c = stored-fits (c .before .before .scan-text .ensures .stored)
 
 slice-aggregate-write-all : tie.Need-slice-aggregate-write-all-2 Inv-loop μ-loop
-slice-aggregate-write-all c = sym (length-take-le _ _ (stored-fits (c .before .before .before .scan-text .ensures .stored) (search needs)))
+slice-aggregate-write-all c = sym (length-take-le _ _ (stored-fits (c .before .before .before .scan-text .ensures .stored)))
 
 loop-again : tie.Need-loop-again Inv-loop μ-loop
 loop-again c = (c .before .before .before .before .before .before .scan-text .ensures .good, search needs, search needs, search needs)

@@ -6,7 +6,8 @@ use lib.ListN.{length as len, length-take, length-drop}
 use borrow.Author.Needs.{needs}
 use borrow.Author.Tests.{leb-true, leb-false}
 use Rattle.model.specs.Text.{runLines}
-use Rattle.run.specs.Filling.{Filling, filling-none, filling-within, filling-more, passed-less, stored-kept, stored-fits}
+use Rattle.model.specs.Laws.Appended.{stored-fits}
+use Rattle.run.specs.Filling.{Filling, filling-none, filling-within, filling-more, passed-less, stored-kept}
 use Rattle.run.proofs.fill.Statement.{statement}
 use Rattle.run.proofs.fill.Tie as tie
 

@@ -1,0 +1,2 @@
+-- The laws of a load's figures as text.
+pub mod Figures
