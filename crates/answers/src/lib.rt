@@ -113,7 +113,7 @@ fn same_record(outcome: Outcome, state: RingState, case: &[u8], from: usize) -> 
     if cases::outcome_number(outcome) != case[from] {
         return false;
     }
-    comparing::same_state(state, loads::state_at(case, case[from + 1], from + 2))
+    comparing_loads::same_state(state, loads::state_at(case, case[from + 1], from + 2))
 }
 
 // Whether an answer is the one that a case holds from an index on: the number of the outcome, the ring state and the choices.

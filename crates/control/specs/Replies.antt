@@ -10,9 +10,7 @@ use borrow.Author.Tests.{eq-eqb, ne-eqb}
 use Rattle.model.specs.declared.Load.{Load}
 use Rattle.model.specs.declared.Ring.{Ring}
 use Rattle.model.specs.declared.RingState.{RingState}
-use Rattle.model.specs.declared.Outcome.{Outcome}
-use Rattle.model.specs.declared.Outcome.the-variants.{Served, Refused}
-use Rattle.model.specs.declared.BusChoice.{BusChoice}
+use Rattle.model.specs.declared.Outcome.the-variants.{Served}
 use Rattle.model.specs.declared.RingAnswer.{RingAnswer}
 use Rattle.model.specs.declared.StateAnswer.{StateAnswer}
 use Rattle.model.specs.Values.{outcomeNumber, choiceValues}
@@ -20,39 +18,14 @@ use Rattle.model.specs.Plant.{largest}
 use Rattle.model.specs.Reports.{blankRing, calledFor, withPlan}
 use Rattle.model.specs.Refusals.{firstMet, sizeOutside, startRefusal}
 use Rattle.model.specs.Answers.{refusedAnswer, refusedReply, servedAnswer, servedReply, replyBy, callValues}
-use Rattle.model.specs.Bookings.{mostLive, liveBookings, noLoad, withFigures}
+use Rattle.model.specs.Bookings.{mostLive, liveBookings, noLoad}
 use Rattle.model.specs.States.{unloaded, reckoned, badRecord, stateRefusal, refusedState, servedState, stateBy}
 use Rattle.model.specs.Laws.Tests.{dec-eq}
 use Rattle.model.specs.Laws.Refusals.{served-refused}
 use Rattle.model.specs.Laws.Answers.{Gives, gives-refused}
 use Rattle.model.specs.Laws.Bookings.{AllBookable, OnRing}
 use Rattle.theory.specs.Proofs.Choosing.{choices-inside}
-
--- the load of an answer of outcome o: its figures made anew where it is served, the load as it was where it is refused
-abbrev pub loadBy : Outcome → RingAnswer → Load → Load
-loadBy Served a load = withFigures (a .choices) load
-loadBy (Refused k) a load = load
-
--- an inner answer with the load beside the ring
-unfoldable pub withLoad : RingAnswer → Load → StateAnswer
-withLoad a load = record { outcome = a .outcome; state = record { ring = a .ring; load = loadBy (a .outcome) a load }; choices = a .choices }
-
--- next is the load that the code gives
-module _ (a : RingAnswer) (load next : Load) where
-  pub served-load : a .outcome ≡ Served → next ≡ withFigures (a .choices) load
-      → record { outcome = Served; state = record { ring = a .ring; load = next }; choices = a .choices } ≡ withLoad a load
-  unfolding withLoad
-  served-load e is = rw (e, is)
-
-  pub refused-load : (k : ℕ) → a .outcome ≡ Refused k → next ≡ load
-      → record { outcome = Refused k; state = record { ring = a .ring; load = next }; choices = a .choices } ≡ withLoad a load
-  unfolding withLoad
-  refused-load k e is = rw (e, is)
-
-pub load-reckoned : (ring : Ring) (load next : Load) (cs : List BusChoice) → cs ≡ calledFor ring → next ≡ withFigures cs load
-    → record { ring = ring; load = next } ≡ reckoned ring load
-unfolding reckoned
-load-reckoned ring load next cs e is = rw (is, e)
+use Rattle.reckoning.specs.Loads.{withLoad}
 
 -- a call of refusal k answers r and leaves the bytes `after` in the buffer: its reply, its number and the values of its choices
 abbrev pub StateGives : ℕ → RingState → RingState → List ℕ → StateAnswer → List ℕ → Type 0

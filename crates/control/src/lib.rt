@@ -2,18 +2,14 @@
 // calls that take any n, any ring state (document 01: ring record), any report, any scan, any booking and any buffer.
 ghost use mathlib.Core.Path.{_≡_};
 ghost use mathlib.Core.List.{[], _∷_};
-ghost use Prim.Native.Nat.{_≤_};
 ghost use lib.ListN.{length};
-ghost use Rattle.model.specs.declared.Outcome.the-variants.{Served};
 ghost use Rattle.model.specs.Values.{outcomeNumber, choiceValues};
 ghost use Rattle.model.specs.Reports.{blankRing};
 ghost use Rattle.model.specs.Refusals.{startRefusal, stepRefusal};
 ghost use Rattle.model.specs.Answers.{callValues};
 ghost use Rattle.model.specs.Scans.{scanReports, scanRefusal};
-ghost use Rattle.model.specs.Bookings.{liveBookings};
 ghost use Rattle.model.specs.States.{
   toldState,
-  reckoned,
   stateRefusal,
   stateStart,
   stateStep,
@@ -24,64 +20,13 @@ ghost use Rattle.model.specs.States.{
   bookAnswer,
   cancelAnswer,
 };
-ghost use Rattle.model.specs.Laws.Bookings.{AllBookable, OnRing};
-ghost use Rattle.control.specs.Replies.{withLoad};
 use model::Booking;
 use model::BookingAnswer;
-use model::Load;
 use model::Outcome;
 use model::Report;
-use model::Ring;
-use model::RingAnswer;
 use model::RingState;
 use model::Scan;
 use model::StateAnswer;
-
-// "after each booking, cancellation, step or scan it gives every generator's watts, kept up to date": a load on a ring whose choices are
-// planned anew. "Choices don't depend on load."
-fn reckoned_load(ring: Ring, load: Load) -> RingState
-    requires size { ⌜ (3 ≤ ring .n) × (ring .n ≤ 20) ⌝ }
-    requires live { ⌜ load .live ≤ 64 ⌝ }
-    requires bounds { ⌜ AllBookable (ring .n) (liveBookings load) ⌝ }
-    ensures { λ r. ⌜ r ≡ reckoned ring load ⌝ }
-{
-    let planned = planner::plan(ring.n, ring.health);
-    let choices = planned.choices;
-    let figured = figures::with_figures(choices, load);
-    RingState {
-        ring,
-        load: figured,
-    }
-}
-
-// The answer of an inner call, with the load beside the ring: "kept up to date" where it was served, as it was where it was refused.
-fn with_load(answer: RingAnswer, load: Load) -> StateAnswer
-    requires { ⌜ (answer .outcome ≡ Served → (load .live ≤ 64) × OnRing (answer .choices) (liveBookings load)) ⌝ }
-    ensures { λ r. ⌜ r ≡ withLoad answer load ⌝ }
-{
-    let outcome = answer.outcome;
-    let ring = answer.ring;
-    let choices = answer.choices;
-    match outcome {
-        Outcome::Served => {
-            let anew = figures::with_figures(choices, load);
-            let state = RingState { ring, load: anew };
-            StateAnswer {
-                outcome: Outcome::Served,
-                state,
-                choices,
-            }
-        }
-        Outcome::Refused(number) => {
-            let state = RingState { ring, load };
-            StateAnswer {
-                outcome: Outcome::Refused(number),
-                state,
-                choices,
-            }
-        }
-    }
-}
 
 // "Starting a ring takes n and gives the record with all parts fit, each bus's choice and the sheet of its first orders."; it checks
 // "2, 8". "A refused start has a record with n = 0".
@@ -93,9 +38,9 @@ pub fn start(n: u8, buffer: &mut [u8]) -> StateAnswer
 {
     let load = rings::no_load();
     if components::size_outside(n) {
-        return with_load(rings::refused(2, rings::blank(0)), load);
+        return reckoning::with_load(rings::refused(2, rings::blank(0)), load);
     }
-    with_load(transition::start(n, buffer), load)
+    reckoning::with_load(transition::start(n, buffer), load)
 }
 
 // "A step takes a record and a report, and gives the new record, each bus's choice and the sheet."; it checks 9, 5, 6, 8. A
@@ -114,9 +59,9 @@ pub fn step(state: RingState, report: Report, buffer: &mut [u8]) -> StateAnswer
     let ring = state.ring;
     let load = state.load;
     if records::bad_record(state) {
-        return with_load(rings::refused(9, ring), load);
+        return reckoning::with_load(rings::refused(9, ring), load);
     }
-    with_load(transition::step(ring, report, buffer), load)
+    reckoning::with_load(transition::step(ring, report, buffer), load)
 }
 
 // "The record and choices must be those that single steps would end with, and the sheet goes straight from the first standing orders to
@@ -136,9 +81,9 @@ pub fn scan(state: RingState, scan: Scan, buffer: &mut [u8]) -> StateAnswer
     let ring = state.ring;
     let load = state.load;
     if records::bad_record(state) {
-        return with_load(rings::refused(9, ring), load); // before its count is looked at
+        return reckoning::with_load(rings::refused(9, ring), load); // before its count is looked at
     }
-    with_load(transition::scan(ring, scan, buffer), load)
+    reckoning::with_load(transition::scan(ring, scan, buffer), load)
 }
 
 // "Each has its number as the answer, the record as handed in".
@@ -173,7 +118,7 @@ pub fn book(state: RingState, booking: Booking) -> BookingAnswer
     if 64 <= load.live {
         return unbooked(14, state);
     }
-    let booked = reckoned_load(ring, bookings::with_booking(load, booking));
+    let booked = reckoning::reckoned_load(ring, bookings::with_booking(load, booking));
     BookingAnswer {
         outcome: Outcome::Served,
         state: booked,
@@ -193,7 +138,7 @@ pub fn cancel(state: RingState, number: u16) -> BookingAnswer
     if !bookings::is_live(load, number) {
         return unbooked(13, state); // not live
     }
-    let left = reckoned_load(ring, bookings::without_booking(load, number));
+    let left = reckoning::reckoned_load(ring, bookings::without_booking(load, number));
     BookingAnswer {
         outcome: Outcome::Served,
         state: left,

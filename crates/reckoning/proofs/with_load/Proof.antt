@@ -1,8 +1,8 @@
--- `control::with_load` meets its contract: new figures where the inner call was served, the load as it was where it was refused.
+-- `reckoning::with_load` meets its contract: new figures where the inner call was served, the load as it was where it was refused.
 use borrow.Author.Needs.{needs}
-use Rattle.control.specs.Replies.{served-load, refused-load}
-use Rattle.control.proofs.with_load.Statement.{statement}
-use Rattle.control.proofs.with_load.Tie as tie
+use Rattle.reckoning.specs.Loads.{served-load, refused-load}
+use Rattle.reckoning.proofs.with_load.Statement.{statement}
+use Rattle.reckoning.proofs.with_load.Tie as tie
 
 with-figures-requires : tie.Need-with-figures-requires
 with-figures-requires c κs = c .before .before .before .before .pre (c .enum-told .given .1)

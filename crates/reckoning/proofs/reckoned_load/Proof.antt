@@ -1,11 +1,11 @@
--- `control::reckoned_load` meets its contract: the figures are made with the choices planned.
+-- `reckoning::reckoned_load` meets its contract: the figures are made with the choices planned.
 use mathlib.Core.Path.{_≡_}
 use borrow.Author.Needs.{needs}
 use Rattle.model.specs.Reports.{calledFor}
 use Rattle.theory.specs.Proofs.Choosing.{choices-inside}
-use Rattle.control.specs.Replies.{load-reckoned}
-use Rattle.control.proofs.reckoned_load.Statement.{statement}
-use Rattle.control.proofs.reckoned_load.Tie as tie
+use Rattle.reckoning.specs.Loads.{load-reckoned}
+use Rattle.reckoning.proofs.reckoned_load.Statement.{statement}
+use Rattle.reckoning.proofs.reckoned_load.Tie as tie
 
 planned : (d : tie.After-plan) → d .plan .result .choices ≡ calledFor (d .before .args .ring)
 planned d = cc

@@ -1,11 +1,11 @@
--- `comparing::same_watts` meets its contract. The loop's invariant: the figures passed are the same.
+-- `comparing_loads::same_watts` meets its contract. The loop's invariant: the figures passed are the same.
 use Prim.Native.Nat.{_≤_, _-_}
 use native.Mathlib.Nat.{le-antisymm}
 use borrow.Author.Needs.{needs}
 use Rattle.model.specs.Laws.Tests.{never}
 use Rattle.comparing.specs.Comparing.{AlikeTo, alike-none, alike-more, alike-all}
-use Rattle.comparing.proofs.same_watts.Statement.{statement}
-use Rattle.comparing.proofs.same_watts.Tie as tie
+use Rattle.comparing_loads.proofs.same_watts.Statement.{statement}
+use Rattle.comparing_loads.proofs.same_watts.Tie as tie
 
 abbrev Inv-loop : tie.InvT-loop
 Inv-loop ours theirs g₀ g = (g ≤ 20) × AlikeTo 0 g (ours .watts) (theirs .watts)

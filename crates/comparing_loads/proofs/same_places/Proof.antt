@@ -1,4 +1,4 @@
--- `comparing::same_places` meets its contract. The loop's invariant: the places passed hold the same.
+-- `comparing_loads::same_places` meets its contract. The loop's invariant: the places passed hold the same.
 use mathlib.Core.Path.{_≡_}
 use Prim.Native.Nat.{_≤_, _-_}
 use native.Mathlib.Nat.{le-antisymm}
@@ -7,9 +7,9 @@ use borrow.Author.Needs.{needs}
 use borrow.Author.Tests.{not-false}
 use Rattle.model.specs.Bookings.{noBooking}
 use Rattle.model.specs.Laws.Tests.{never}
 use Rattle.comparing.specs.Comparing.{AlikeTo, alike-none, alike-more, alike-all}
-use Rattle.comparing.proofs.same_places.Statement.{statement}
-use Rattle.comparing.proofs.same_places.Tie as tie
+use Rattle.comparing_loads.proofs.same_places.Statement.{statement}
+use Rattle.comparing_loads.proofs.same_places.Tie as tie
 
 abbrev Inv-loop : tie.InvT-loop
 Inv-loop ours theirs i₀ i =

@@ -1,9 +1,9 @@
--- `comparing::same_state` meets its contract.
+-- `comparing_loads::same_state` meets its contract.
 use borrow.Author.Needs.{needs}
 use borrow.Author.Tests.{not-false}
 use Rattle.model.specs.Laws.Tests.{never}
-use Rattle.comparing.proofs.same_state.Statement.{statement}
-use Rattle.comparing.proofs.same_state.Tie as tie
+use Rattle.comparing_loads.proofs.same_state.Statement.{statement}
+use Rattle.comparing_loads.proofs.same_state.Tie as tie
 
 all-same : tie.Need-returns-2
 all-same c e =

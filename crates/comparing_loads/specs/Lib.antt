@@ -1,0 +1,2 @@
+-- What makes two places, or two loads, the same.
+pub mod Same

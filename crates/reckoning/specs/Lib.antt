@@ -1,0 +1,2 @@
+-- The laws of a load beside its ring.
+pub mod Loads
