@@ -8,7 +8,7 @@ from support import path, read
 
 STATEMENT = read("crates", "theory", "specs", "Statements", "Numbers.antt").decode()
 NAME = re.compile(r"\w+::\w+")
-HANDED = {"rings::refused"}     # answers the number that it is handed
+HANDED = {"rings::refused", "reckoning::with_load"}     # these answer the number that they are handed
 
 
 def sources():
