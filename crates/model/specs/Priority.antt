@@ -18,6 +18,22 @@ sources n zero = below n
 sources n (suc zero) = 1 ∷ 0 ∷ others n
 sources n (suc (suc k)) = 1 ∷ 0 ∷ (keep (λ g. not (eqb g (suc (suc k)))) (others n) ++ (suc (suc k) ∷ []))
 
+-- "a row a bus" (document 02, Note 6): the row of bus b, the numbers of its sources
+unfoldable pub sourceRow : ℕ → ℕ → List ℕ
+sourceRow n b = map suc (sources n b)
+
+-- the rows of a ring of n buses, in number order
+unfoldable pub sourcePage : ℕ → List ℕ
+sourcePage n = flatMap (sourceRow n) (below n)
+
+-- ".. one behind the other": the rows of the sizes from 3 that are below m
+unfoldable pub pagesBelow : ℕ → List ℕ
+pagesBelow m = flatMap sourcePage (keep (leb 3) (below m))
+
+-- "one constant table, sizes 3 to 20 one behind the other, a row a bus, 2,865 entries": what the rule makes of it
+unfoldable pub sourceTable : List ℕ
+sourceTable = pagesBelow 21
+
 -- a path from a generator to a bus, through rising bus numbers or falling ones
 pub record Path : Type 0 where
   pub source : ℕ

@@ -1,24 +1,25 @@
 -- The search over the sources of a bus and their paths: what a path is asked, and what is left to try.
 -- Buses, generators and breakers are indices from 0; an owner is a generator's number, from 1, or 0.
 use mathlib.Core.Path.{_≡_, refl, sym, _∙_}
-use mathlib.Core.Bool.{Bool, true, false, not, _&&_, cond}
+use mathlib.Core.Bool.{Bool, true, false, not, _&&_, cond, and-false}
 use mathlib.Core.Logic.{_⊎_, inl, inr, _≢_}
 use mathlib.Core.List.{List, [], _∷_, _++_, flatMap}
 use mathlib.Core.Option.{Option, none, some}
-use Prim.Native.Nat.{ℕ, zero, suc, _+_, _≤_, _<_}
+use Prim.Native.Nat.{ℕ, zero, suc, _+_, _-_, _≤_, _<_}
 use native.Mathlib.Omega.{arith}
 use native.Mathlib.Numerals.{add-one}
 use lib.Dec.{ltb, eqb}
-use lib.ListN.{getD, drop, length, drop-of-length-le}
+use lib.ListN.{getD, drop, length, length-map, drop-of-length-le}
 use lib.Seq.{drop-cons}
 use borrow.Author.Tests.{not-true, not-false, ltb-true, lt-ltb, le-ltb, eq-eqb, ne-eqb, le-leb, lt-leb}
-use Rattle.model.specs.Lists.{first}
+use Rattle.model.specs.Lists.{first, _∈_}
 use Rattle.model.specs.Plant.{up}
-use Rattle.model.specs.Priority.{Path, sources, highRises, pathsFrom, paths}
+use Rattle.model.specs.Priority.{Path, sources, sourceRow, highRises, pathsFrom, paths}
 use Rattle.model.specs.Laws.Tests.{contra, and-left, and-right, and-intro, dec, dec-eq, dec-lt}
+use Rattle.model.specs.Laws.Lists.{at-in, map-within, first-past}
 use Rattle.theory.specs.Proofs.Geometry.{up-lt}
 use Rattle.theory.specs.Theorems.Priorities.{sources-length}
-use Rattle.theory.specs.Proofs.Paths.{lower, upper, Ends, lower-lt, upper-lt, pathTo}
+use Rattle.theory.specs.Proofs.Paths.{lower, upper, Ends, lower-lt, upper-lt, sources-at, from-at, pathTo}
 use Rattle.paths.specs.declared.Span.{Span}
 use Rattle.paths.specs.declared.Found.{Found}
 use Rattle.paths.specs.declared.Found.the-variants as found
@@ -59,9 +60,9 @@ pathsAfter n b r = flatMap (pathsFrom n b) (drop r (sources n b))
 abbrev pub pathsLeft : ℕ → ℕ → ℕ → ℕ → List Path
 pathsLeft n b r p = drop p (pathsFrom n b (getD (sources n b) r 0)) ++ pathsAfter n b (r + 1)
 
--- what a turn of the search finds: generator g has a path p to bus b, and it passes
-unfoldable pub triedBy : ℕ → List Bool → List ℕ → List ℕ → ℕ → ℕ → ℕ → Bool
-triedBy n usable breakers owners b g p = ltb p (pathCount b g) && passesBy n usable breakers owners (pathTo b g (pathRises n b g p))
+-- what a turn of the search finds: generator g has a path p to bus b, and the walk along it is clear
+unfoldable pub triedBy : ℕ → List ℕ → List ℕ → ℕ → ℕ → ℕ → Bool
+triedBy n breakers owners b g p = ltb p (pathCount b g) && clearPath n (at breakers) (at owners) (pathTo b g (pathRises n b g p))
 
 -- a path's span begins in the ring and has fewer breakers than the ring
 pub span-lt : (n b g : ℕ) (r : Bool) → b < n → g < n → (spanOf n (pathTo b g r) .from < n) × (spanOf n (pathTo b g r) .steps < n)
@@ -143,33 +144,56 @@ passes-candidate n usable breakers owners w h p =
     and-intro u _ (and-left u _ p)
     (and-intro (free (getD owners (w .bus) 0) (suc (w .source))) _ (c .buses (w .bus) (ends-in h .1)) (c .buses (w .source) (ends-in h .0)))
 
-module _ (n : ℕ) (usable : List Bool) (breakers owners : List ℕ) (b g p : ℕ) where
+-- .. so that none of another generator passes
+candidate-paths : (n : ℕ) (usable : List Bool) (breakers owners : List ℕ) (b g : ℕ) → b < n → g < n → candidateBy usable owners b g ≡ false
+    → (w : Path) → w ∈ pathsFrom n b g → passesBy n usable breakers owners w ≡ false
+candidate-paths n usable breakers owners b g hb hg out w m = go (dec (passesBy n usable breakers owners w))
+  where
+    ends : (w .source ≡ g) × (w .bus ≡ b)
+    ends = from-at n b g w m
+
+    go : (passesBy n usable breakers owners w ≡ true) ⊎ (passesBy n usable breakers owners w ≡ false)
+        → passesBy n usable breakers owners w ≡ false
+    go (inl e) =
+        contra (passes-candidate n usable breakers owners w (record { source = rw (ends .0) hg; bus = rw (ends .1) hb }) e)
+        (rw (ends .0, ends .1) out)
+    go (inr e) = e
+
+module _ (n : ℕ) (breakers owners : List ℕ) (b g p : ℕ) where
   -- the generator has no such path
-  pub tried-none : pathCount b g ≤ p → false ≡ triedBy n usable breakers owners b g p
+  pub tried-none : pathCount b g ≤ p → false ≡ triedBy n breakers owners b g p
   unfolding triedBy
   tried-none l = rw (le-ltb p (pathCount b g) l)
 
-  -- it is no candidate
-  pub tried-no-candidate : {k : Bool} → b < n → g < n → k ≡ candidateBy usable owners b g → not k ≡ true
-      → false ≡ triedBy n usable breakers owners b g p
+  -- it has one, which is clear as its walk says
+  pub tried-walk : {rising t : Bool} → p < pathCount b g → rising ≡ pathRises n b g p
+      → t ≡ clearPath n (at breakers) (at owners) (pathTo b g rising) → t ≡ triedBy n breakers owners b g p
   unfolding triedBy
-  tried-no-candidate {k} hb hg e out = go (dec (triedBy n usable breakers owners b g p))
-    where
-      w : Path
-      w = pathTo b g (pathRises n b g p)
+  tried-walk l e d = rw (lt-ltb p (pathCount b g) l, ← e) d
 
-      go : (triedBy n usable breakers owners b g p ≡ true) ⊎ (triedBy n usable breakers owners b g p ≡ false)
-          → false ≡ triedBy n usable breakers owners b g p
-      go (inl q) =
-          contra (passes-candidate n usable breakers owners w (record { source = hg; bus = hb })
-          (and-right (ltb p (pathCount b g)) _ q)) (sym e ∙ not-true k out)
-      go (inr q) = sym q
+-- ---- the row of a bus
 
-  -- a candidate's path passes as its walk says
-  pub tried-walk : {k rising t : Bool} → p < pathCount b g → k ≡ candidateBy usable owners b g → not k ≡ false → rising ≡ pathRises n b g p
-      → t ≡ clearPath n (at breakers) (at owners) (pathTo b g rising) → t ≡ triedBy n usable breakers owners b g p
-  unfolding triedBy passesBy
-  tried-walk {k} l c is e d = rw (lt-ltb p (pathCount b g) l, ← e, and-left (getD usable g false) _ (sym c ∙ not-false k is), d)
+-- place r of the row is there, holds a number of the ring, and is the number of the source at that place
+pub record Entry (n b r : ℕ) (row : List ℕ) : Type 0 where
+  pub there : r < length row
+  pub first : 1 ≤ getD row r 0
+  pub inside : getD row r 0 - 1 < n
+  pub source : getD row r 0 - 1 ≡ getD (sources n b) r 0
+
+pub row-entry : {n b r : ℕ} {row : List ℕ} → b < n → r < n → row ≡ sourceRow n b → Entry n b r row
+unfolding sourceRow
+row-entry {n} {b} {r} {row} hb hr e = record {
+  there = rw (e, length-map (sources n b) suc) within;
+  first = omega (arith, is);
+  inside = omega (arith, is, sources-at n b _ hb (at-in (sources n b) r 0 within));
+  source = omega (arith, is);
+}
+  where
+    within : r < length (sources n b)
+    within = rw (sources-length n b hb) hr
+
+    is : getD row r 0 ≡ suc (getD (sources n b) r 0)
+    is = rw e (map-within suc (sources n b) r 0 0 within)
 
 -- ---- what the search has left
 
@@ -188,41 +212,57 @@ module _ {n : ℕ} {usable : List Bool} {breakers owners : List ℕ} {b : ℕ} {
     left = l .left ∙ rw (drop-cons (sources n b) r 0 (rw (sources-length n b hb) hr), add-one r);
   }
 
+  -- it is no candidate: none of them passes
+  pub left-out : (r : ℕ) {g : ℕ} {k : Bool} → b < n → r < n → g < n → g ≡ getD (sources n b) r 0 → k ≡ candidateBy usable owners b g → k ≡ false
+      → Left n usable breakers owners b f (pathsAfter n b r) → Left n usable breakers owners b f (pathsAfter n b (r + 1))
+  left-out r {g} hb hr hg e c z l =
+      let s = left-source r hb hr l in
+      record {
+        nothing = l .nothing;
+        left = s .left
+            ∙ first-past (passesBy n usable breakers owners) (pathsFrom n b (getD (sources n b) r 0)) (pathsAfter n b (r + 1))
+            (candidate-paths n usable breakers owners b (getD (sources n b) r 0) hb (rw (← e) hg) (rw (← e) (sym c ∙ z)));
+      }
+
   -- its path p does not pass
-  pub left-miss : (r p : ℕ) {g : ℕ} {t : Bool} → g ≡ getD (sources n b) r 0 → t ≡ triedBy n usable breakers owners b g p → t ≡ false
+  pub left-miss : (r p : ℕ) {g : ℕ} {t : Bool} → g ≡ getD (sources n b) r 0 → t ≡ triedBy n breakers owners b g p → t ≡ false
       → Left n usable breakers owners b f (pathsLeft n b r p) → Left n usable breakers owners b f (pathsLeft n b r (p + 1))
-  unfolding triedBy first
+  unfolding triedBy passesBy first
   left-miss r p e d z l = record { nothing = l .nothing; left = l .left ∙ go (dec-lt p (pathCount b s)) }
     where
       s : ℕ
       s = getD (sources n b) r 0
 
-      missed : triedBy n usable breakers owners b s p ≡ false
+      missed : triedBy n breakers owners b s p ≡ false
       missed = rw e at (sym d ∙ z)
 
       go : (p < pathCount b s) ⊎ (pathCount b s ≤ p)
           → first (passesBy n usable breakers owners) (pathsLeft n b r p)
           ≡ first (passesBy n usable breakers owners) (pathsLeft n b r (p + 1))
-      go (inl h) = rw (paths-next n b s p h, rw (lt-ltb p (pathCount b s) h) at missed)
+      go (inl h) = rw (paths-next n b s p h, rw (lt-ltb p (pathCount b s) h) at missed, and-false (getD usable s false))
       go (inr h) = rw (paths-done n b s p h, paths-done n b s (p + 1) (omega arith))
 
   -- or does
-  pub left-hit : (r p : ℕ) {g : ℕ} {t rising : Bool} → g ≡ getD (sources n b) r 0 → t ≡ triedBy n usable breakers owners b g p → t ≡ true
+  pub left-hit : (r p : ℕ) {g : ℕ} {k t rising : Bool} → g ≡ getD (sources n b) r 0 → k ≡ candidateBy usable owners b g → k ≡ true
+      → t ≡ triedBy n breakers owners b g p → t ≡ true
       → rising ≡ pathRises n b g p → Left n usable breakers owners b f (pathsLeft n b r p)
       → some (pathTo b g rising) ≡ first (passesBy n usable breakers owners) (paths n b)
-  unfolding triedBy first
-  left-hit r p e d z q l = rw (q, e) (sym (l .left ∙ rw (paths-next n b s p count, passed)))
+  unfolding triedBy passesBy first
+  left-hit r p e c y d z q l = rw (q, e) (sym (l .left ∙ rw (paths-next n b s p count, usable-source, passed)))
     where
       s : ℕ
       s = getD (sources n b) r 0
 
-      found : triedBy n usable breakers owners b s p ≡ true
+      found : triedBy n breakers owners b s p ≡ true
       found = rw e at (sym d ∙ z)
+
+      usable-source : getD usable s false ≡ true
+      usable-source = and-left (getD usable s false) _ (rw e at (sym c ∙ y))
 
       count : p < pathCount b s
       count = omega (arith, ltb-true p (pathCount b s) (and-left (ltb p (pathCount b s)) _ found))
 
-      passed : passesBy n usable breakers owners (pathTo b s (pathRises n b s p)) ≡ true
+      passed : clearPath n (at breakers) (at owners) (pathTo b s (pathRises n b s p)) ≡ true
       passed = and-right (ltb p (pathCount b s)) _ found
 
   -- it has no path more

@@ -3,7 +3,7 @@
 ghost use mathlib.Core.Path.{_≡_};
 ghost use Prim.Native.Nat.{_≤_, _<_};
 ghost use Rattle.model.specs.Lists.{first};
-ghost use Rattle.model.specs.Priority.{highRises, paths};
+ghost use Rattle.model.specs.Priority.{sourceRow, highRises, paths};
 ghost use Rattle.theory.specs.Proofs.Paths.{pathTo};
 ghost use Rattle.paths.specs.Search.{passesBy, triedBy, candidateBy, pathFound, pathCount, pathRises, spanOf};
 
@@ -76,23 +76,12 @@ fn candidate(usable: &[bool; 20], owners: &[u8; 20], b: usize, g: usize) -> bool
     false
 }
 
-// Whether generator g has a path p to bus b, 0 high and 1 low, and that path is permitted: the walk along it is clear.
-fn permitted(
-    n: usize,
-    usable: &[bool; 20],
-    breakers: &[u8; 20],
-    owners: &[u8; 20],
-    b: usize,
-    g: usize,
-    p: usize,
-) -> bool
+// Whether generator g, a candidate, has a path p to bus b, 0 high and 1 low, and that path is permitted: the walk along it is clear.
+fn permitted(n: usize, breakers: &[u8; 20], owners: &[u8; 20], b: usize, g: usize, p: usize) -> bool
     requires { ⌜ (b < n) × (g < n) × (n ≤ 20) ⌝ }
-    ensures { λ r. ⌜ r ≡ triedBy n (now (usable .entry)) (now (breakers .entry)) (now (owners .entry)) b g p ⌝ }
+    ensures { λ r. ⌜ r ≡ triedBy n (now (breakers .entry)) (now (owners .entry)) b g p ⌝ }
 {
     if p >= path_count(b, g) {
-        return false;
-    }
-    if !candidate(usable, owners, b, g) {
         return false;
     }
     let span = span_of(n, b, g, rises(n, b, g, p));
@@ -106,27 +95,33 @@ fn permitted(
     )
 }
 
-// The first permitted path of bus b: its sources by priority, and of each the high path before the low one.
+// The first permitted path of bus b: its sources by priority, which its row of the table holds, and of each the high path before the
+// low one.
 pub fn search(
     n: usize,
+    row: &[u8],
     usable: &[bool; 20],
     breakers: &[u8; 20],
     owners: &[u8; 20],
     b: usize,
 ) -> Found
-    requires { ⌜ (b < n) × (3 ≤ n) × (n ≤ 20) ⌝ }
+    requires size { ⌜ (b < n) × (3 ≤ n) × (n ≤ 20) ⌝ }
+    requires row { ⌜ now row ≡ sourceRow n b ⌝ }
     ensures { λ r. ⌜
         pathFound b r ≡ first (passesBy n (now (usable .entry)) (now (breakers .entry)) (now (owners .entry))) (paths n b)
         ⌝ }
 {
     let mut found = Found::Nothing;
     'sources: for r in 0..n {
-        for p in 0..2 {
-            let g = sources::source(n, b, r);
-            if permitted(n, usable, breakers, owners, b, g, p) {
-                let rising = rises(n, b, g, p);
-                found = Found::Path { source: g, rising };
-                break 'sources;
+        // the table has numbers, from 1
+        let g = row[r] as usize - 1;
+        if candidate(usable, owners, b, g) {
+            for p in 0..2 {
+                if permitted(n, breakers, owners, b, g, p) {
+                    let rising = rises(n, b, g, p);
+                    found = Found::Path { source: g, rising };
+                    break 'sources;
+                }
             }
         }
     }

@@ -28,6 +28,7 @@ pub fn plan(n: u8, health: Health) -> Planned
     ensures values { λ r. ⌜ choiceValues (r .choices) ≡ planValues n (healthOf health) ⌝ }
 {
     let size = n as usize;
+    let table = sources::table();
     let usable = sources::usable_generators(health);
     let dark = BusChoice {
         choice: Choice::Dark,
@@ -43,7 +44,7 @@ pub fn plan(n: u8, health: Health) -> Planned
         },
     };
     for b in 0..size {
-        progress = progress::serve(size, health, usable, progress, b);
+        progress = progress::serve(size, &table, health, usable, progress, b);
         let last = progress.last;
         choices[b] = last;
     }

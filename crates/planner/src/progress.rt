@@ -3,6 +3,7 @@
 ghost use mathlib.Core.Path.{_≡_};
 ghost use mathlib.Core.Option.{some};
 ghost use Prim.Native.Nat.{_+_, _≤_, _<_};
+ghost use Rattle.model.specs.Priority.{sourceTable};
 ghost use Rattle.model.specs.Choosing.{choiceOf};
 ghost use Rattle.model.specs.Reports.{places, healthOf};
 ghost use Rattle.theory.specs.Proofs.Paths.{pathTo};
@@ -81,16 +82,25 @@ fn darken(progress: Progress) -> Progress
     after
 }
 
-// The progress after bus b, from that before it.
-pub fn serve(n: usize, health: Health, usable: [bool; 20], progress: Progress, b: usize) -> Progress
+// The progress after bus b, from that before it: the bus's sources are read from its row of the table.
+pub fn serve(
+    n: usize,
+    table: &[u8],
+    health: Health,
+    usable: [bool; 20],
+    progress: Progress,
+    b: usize,
+) -> Progress
     requires size { ⌜ (b < n) × (3 ≤ n) × (n ≤ 20) ⌝ }
+    requires table { ⌜ now table ≡ sourceTable ⌝ }
     requires fed { ⌜ usable ≡ places (mayFeed (healthOf health)) ⌝ }
     requires before { ⌜ progress ≡ served n (healthOf health) b ⌝ }
     ensures { λ r. ⌜ r ≡ served n (healthOf health) (b + 1) ⌝ }
 {
     let breakers = health.bus_breakers;
     let owners = progress.owners;
-    match paths::search(n, &usable, &breakers, &owners, b) {
+    let start = sources::row_start(n, b);
+    match paths::search(n, &table[start..start + n], &usable, &breakers, &owners, b) {
         Found::Nothing => darken(progress),
         Found::Path { source: g, rising } => take(n, health, progress, b, g, rising),
     }

@@ -1,2 +1,3 @@
--- The laws of a bus's sources.
+-- Which generators may feed, and the table of source priorities.
 pub mod Sources
+pub mod Table

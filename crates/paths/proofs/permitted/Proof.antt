@@ -3,7 +3,7 @@ use Rattle.model.specs.Laws.Tests.{auto}
 use Rattle.paths.proofs.permitted.Statement.{statement}
 use Rattle.paths.proofs.permitted.Tie as tie
 use native.Mathlib.Omega.{arith}
-use Rattle.paths.specs.Search.{span-lt, tried-none, tried-no-candidate, tried-walk}
+use Rattle.paths.specs.Search.{span-lt, tried-none, tried-walk}
 
 path-count-requires : tie.Need-path-count-requires
 path-count-requires c κs = search auto
@@ -11,17 +11,7 @@ path-count-requires c κs = search auto
 returns : tie.Need-returns
 returns c =
     let a = c .before .before .args in
-    tried-none (a .n) (a .usable .now) (a .breakers .now) (a .owners .now) (a .b) (a .g) (a .p)
-    (omega (arith, c .before .path-count .ensures))
-
-candidate-requires : tie.Need-candidate-requires
-candidate-requires c κs = search auto
-
-returns-2 : tie.Need-returns-2
-returns-2 c =
-    let a = c .before .before .before .before .args in
-    tried-no-candidate (a .n) (a .usable .now) (a .breakers .now) (a .owners .now) (a .b) (a .g) (a .p) (search auto) (search auto)
-    (c .before .candidate .ensures) (c .if2 .taken)
+    tried-none (a .n) (a .breakers .now) (a .owners .now) (a .b) (a .g) (a .p) (omega (arith, c .before .path-count .ensures))
 
 rises-requires : tie.Need-rises-requires
 rises-requires c κs = search auto
@@ -35,17 +25,15 @@ number-of-requires c κs = search auto
 clear-requires : tie.Need-clear-requires
 clear-requires c κs =
     let d = c .before .before in
-    let a = d .before .before .before .before .before .args in
+    let a = d .before .before .before .args in
     rw (c .before .span-of .ensures) (span-lt (a .n) (a .b) (a .g) (d .rises .result) (search auto) (search auto) .0, search auto)
 
-returns-3 : tie.Need-returns-3
-returns-3 c =
+returns-2 : tie.Need-returns-2
+returns-2 c =
     let s = c .before .before in
     let k = s .before .before .before in
-    let a = k .before .before .before .args in
-    tried-walk (a .n) (a .usable .now) (a .breakers .now) (a .owners .now) (a .b) (a .g) (a .p)
-    (omega (arith, k .before .before .path-count .ensures))
-    (k .candidate .ensures) (s .before .before .if2 .left)
+    let a = k .before .args in
+    tried-walk (a .n) (a .breakers .now) (a .owners .now) (a .b) (a .g) (a .p) (omega (arith, k .path-count .ensures))
     (s .before .rises .ensures)
     (rw (s .span-of .ensures, c .before .number-of .ensures) at (c .clear .ensures))
 
@@ -55,10 +43,8 @@ permitted-spec =
     (tie.spec
     path-count-requires
     returns
-    candidate-requires
-    returns-2
     rises-requires
     span-of-requires
     number-of-requires
     clear-requires
-    returns-3)
+    returns-2)

@@ -10,17 +10,23 @@ use Rattle.planner.proofs.plan.Statement.{statement}
 use Rattle.planner.proofs.plan.Tie as tie
 
 abbrev Inv-loop : tie.InvT-loop
-Inv-loop n health size usable choices₀ progress₀ b₀ choices progress b =
+Inv-loop n health size table usable choices₀ progress₀ b₀ choices progress b =
     (b ≤ n) × (progress ≡ served n (healthOf health) b) × (choices ≡ choicesTo n (healthOf health) b)
 
 abbrev μ-loop : tie.MeasureT-loop
-μ-loop n health size usable choices₀ progress₀ b₀ choices progress b = n - b
+μ-loop n health size table usable choices₀ progress₀ b₀ choices progress b = n - b
+
+table-requires : tie.Need-table-requires Inv-loop μ-loop
+table-requires c κs = search auto
 
 usable-generators-requires : tie.Need-usable-generators-requires Inv-loop μ-loop
 usable-generators-requires c κs = search auto
 
 loop-holds : tie.Need-loop-holds Inv-loop μ-loop
 loop-holds c = (search auto, served-none _ _, choices-none _ _)
+
+slice-aggregate-serve : tie.Need-slice-aggregate-serve Inv-loop μ-loop
+slice-aggregate-serve c = search auto
 
 serve-requires : tie.Need-serve-requires Inv-loop μ-loop
 serve-requires c κs = search auto
@@ -39,8 +45,8 @@ loop-less c = search auto
 
 loop-again : tie.Need-loop-again Inv-loop μ-loop
 loop-again c =
-    let q = c .before .before .before in
-    let a = q .before .before .args in
+    let q = c .before .before .before .before in
+    let a = q .before .before .before .args in
     let e = c .before .serve .ensures in
     (search auto, e, rw (q .loop .inv .2, e) (choices-more (a .n) (healthOf (a .health)) (q .loop .b)))
 
@@ -48,7 +54,7 @@ returns : tie.Need-returns Inv-loop μ-loop
 returns c =
     let d = c .before in
     let q = d .before in
-    let a = q .before .before .args in
+    let a = q .before .before .before .args in
     let e = le-antisymm (q .loop .inv .0) (d .loop-test .left) in
     let H = healthOf (a .health) in
     let s = (rw e at (q .loop .inv .2)) ∙ choices-all (a .n) H in
@@ -60,8 +66,10 @@ plan-spec =
     (tie.spec
     Inv-loop
     μ-loop
+    table-requires
     usable-generators-requires
     loop-holds
+    slice-aggregate-serve
     serve-requires
     mul-choices
     array-set-from-choices
