@@ -11,7 +11,7 @@ use native.Mathlib.Numerals.{add-one}
 use lib.Dec.{ltb, eqb}
 use lib.ListN.{getD, drop, length, length-map, drop-of-length-le}
 use lib.Seq.{drop-cons}
-use borrow.Author.Tests.{not-true, not-false, ltb-true, lt-ltb, le-ltb, eq-eqb, ne-eqb, le-leb, lt-leb}
+use borrow.Author.Tests.{ltb-true, lt-ltb, le-ltb, eq-eqb, ne-eqb, le-leb, lt-leb}
 use Rattle.model.specs.Lists.{first, _∈_}
 use Rattle.model.specs.Plant.{up}
 use Rattle.model.specs.Priority.{Path, sources, sourceRow, highRises, pathsFrom, paths}
@@ -173,27 +173,30 @@ module _ (n : ℕ) (breakers owners : List ℕ) (b g p : ℕ) where
 
 -- ---- the row of a bus
 
--- place r of the row is there, holds a number of the ring, and is the number of the source at that place
-pub record Entry (n b r : ℕ) (row : List ℕ) : Type 0 where
-  pub there : r < length row
-  pub first : 1 ≤ getD row r 0
-  pub inside : getD row r 0 - 1 < n
-  pub source : getD row r 0 - 1 ≡ getD (sources n b) r 0
+module _ {n b r : ℕ} {row : List ℕ} (hb : b < n) (hr : r < n) (is : row ≡ sourceRow n b) where
+  within : r < length (sources n b)
+  within = rw (sources-length n b hb) hr
 
-pub row-entry : {n b r : ℕ} {row : List ℕ} → b < n → r < n → row ≡ sourceRow n b → Entry n b r row
-unfolding sourceRow
-row-entry {n} {b} {r} {row} hb hr e = record {
-  there = rw (e, length-map (sources n b) suc) within;
-  first = omega (arith, is);
-  inside = omega (arith, is, sources-at n b _ hb (at-in (sources n b) r 0 within));
-  source = omega (arith, is);
-}
-  where
-    within : r < length (sources n b)
-    within = rw (sources-length n b hb) hr
+  number : getD row r 0 ≡ suc (getD (sources n b) r 0)
+  unfolding sourceRow
+  number = rw is (map-within suc (sources n b) r 0 0 within)
 
-    is : getD row r 0 ≡ suc (getD (sources n b) r 0)
-    is = rw e (map-within suc (sources n b) r 0 0 within)
+  -- place r is there
+  pub place-there : r < length row
+  unfolding sourceRow
+  place-there = rw (is, length-map (sources n b) suc) within
+
+  -- .. holds a number
+  pub place-number : 1 ≤ getD row r 0
+  place-number = omega (arith, number)
+
+  -- .. which is that of the source there
+  pub place-source : getD row r 0 - 1 ≡ getD (sources n b) r 0
+  place-source = omega (arith, number)
+
+  -- .. a generator of the ring
+  pub place-inside : getD row r 0 - 1 < n
+  place-inside = omega (arith, number, sources-at n b _ hb (at-in (sources n b) r 0 within))
 
 -- ---- what the search has left
 
@@ -213,7 +216,8 @@ module _ {n : ℕ} {usable : List Bool} {breakers owners : List ℕ} {b : ℕ} {
   }
 
   -- it is no candidate: none of them passes
-  pub left-out : (r : ℕ) {g : ℕ} {k : Bool} → b < n → r < n → g < n → g ≡ getD (sources n b) r 0 → k ≡ candidateBy usable owners b g → k ≡ false
+  pub left-out : (r : ℕ) {g : ℕ} {k : Bool} → b < n → r < n → g < n → g ≡ getD (sources n b) r 0
+      → k ≡ candidateBy usable owners b g → k ≡ false
       → Left n usable breakers owners b f (pathsAfter n b r) → Left n usable breakers owners b f (pathsAfter n b (r + 1))
   left-out r {g} hb hr hg e c z l =
       let s = left-source r hb hr l in

@@ -1,7 +1,8 @@
 // The search for a bus's path: "The search over generators and their two ways ends at the first permitted way."
 // Buses, generators and bus breakers are indices from 0; an owner is a generator's number, from 1, or 0 where there is none.
 ghost use mathlib.Core.Path.{_≡_};
-ghost use Prim.Native.Nat.{_≤_, _<_};
+ghost use Prim.Native.Nat.{_-_, _≤_, _<_};
+ghost use lib.ListN.{length, getD};
 ghost use Rattle.model.specs.Lists.{first};
 ghost use Rattle.model.specs.Priority.{sourceRow, highRises, paths};
 ghost use Rattle.theory.specs.Proofs.Paths.{pathTo};
@@ -62,11 +63,14 @@ pub fn span_of(n: usize, b: usize, g: usize, rising: bool) -> Span
     }
 }
 
-// Whether a path of generator g to bus b can be permitted, by what is known before its breakers are walked.
-fn candidate(usable: &[bool; 20], owners: &[u8; 20], b: usize, g: usize) -> bool
-    requires { ⌜ (b < 20) × (g < 20) ⌝ }
-    ensures { λ r. ⌜ r ≡ candidateBy (now (usable .entry)) (now (owners .entry)) b g ⌝ }
+// Whether a path to bus b from the generator at place r of its row can be permitted, by what is known before its breakers are walked.
+fn candidate(row: &[u8], usable: &[bool; 20], owners: &[u8; 20], b: usize, r: usize) -> bool
+    requires bus { ⌜ b < 20 ⌝ }
+    requires place { ⌜ r < length (now row) ⌝ }
+    requires number { ⌜ (1 ≤ getD (now row) r 0) × (getD (now row) r 0 ≤ 20) ⌝ }
+    ensures { λ k. ⌜ k ≡ candidateBy (now (usable .entry)) (now (owners .entry)) b (getD (now (row .entry)) r 0 - 1) ⌝ }
 {
+    let g = sources::source(row, r);
     if usable[g] {
         let number = sources::number_of(g);
         if walks::free(owners[b], number) {
@@ -113,10 +117,9 @@ pub fn search(
 {
     let mut found = Found::Nothing;
     'sources: for r in 0..n {
-        // the table has numbers, from 1
-        let g = row[r] as usize - 1;
-        if candidate(usable, owners, b, g) {
+        if candidate(row, usable, owners, b, r) {
             for p in 0..2 {
+                let g = sources::source(row, r);
                 if permitted(n, breakers, owners, b, g, p) {
                     let rising = rises(n, b, g, p);
                     found = Found::Path { source: g, rising };

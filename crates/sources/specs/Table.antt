@@ -7,13 +7,13 @@ use Prim.Native.Nat.{ℕ, zero, suc, _+_, _-_, _*_, _/_, _≤_, _<_}
 use native.Mathlib.Omega.{arith}
 use native.Mathlib.Nat.{suc-mul}
 use lib.Dec.{leb, eqb}
-use lib.ListN.{length, take, drop, length-append, length-map}
-use lib.Seq.{take-at, drop-at, drop-append-add}
+use lib.ListN.{length, getD, take, drop, length-append, length-map}
+use lib.Seq.{take-at, drop-at, getD-take, getD-drop}
 use borrow.Author.Tests.{le-leb, leb-true, eqb-true}
 use Rattle.model.specs.Lists.{below, keep, allOf}
 use Rattle.model.specs.Priority.{others, sources, sourceRow, sourcePage, pagesBelow, sourceTable}
 use Rattle.model.specs.Laws.Tests.{and-left, and-right, dec, dec-lt}
-use Rattle.model.specs.Laws.Lists.{flat-below, all-at, keep-in, below-in}
+use Rattle.model.specs.Laws.Lists.{below-in, map-within, flat-below, all-at, keep-in}
 use Rattle.theory.specs.Theorems.Priorities.{sources-length}
 
 -- where the row of bus b begins: behind the smaller rings, and behind the rows of the buses before it
@@ -80,7 +80,14 @@ table-parted n b h k hb =
       before ++ rows,
       u .0 ++ t .0,
       length-append before rows ∙ omega (arith, rows-length n b (omega arith), ap length (pages-flat (below n))),
-      pages-flat (below 21) ∙ t .1 ∙ rw (le-leb 3 n h, u .1, append-assoc rows (sourceRow n b ++ u .0) (t .0), append-assoc (sourceRow n b) (u .0) (t .0), append-assoc before rows (sourceRow n b ++ (u .0 ++ t .0))),
+      pages-flat (below 21) ∙ t .1
+          ∙ rw (
+            le-leb 3 n h,
+            u .1,
+            append-assoc rows (sourceRow n b ++ u .0) (t .0),
+            append-assoc (sourceRow n b) (u .0) (t .0),
+            append-assoc before rows (sourceRow n b ++ (u .0 ++ t .0)),
+          ),
     )
 
 -- ---- where the rows of a size begin
@@ -104,7 +111,8 @@ module _ (n : ℕ) (h : 3 ≤ n) (k : n ≤ 20) where
 
   pub squares-before : squaresBelow n ≡ length (pagesBelow n) + 5
   unfolding startsBehind
-  squares-before = eqb-true (squaresBelow n) (length (pagesBelow n) + 5) (and-left (eqb (squaresBelow n) (length (pagesBelow n) + 5)) _ starts)
+  squares-before =
+      let z = length (pagesBelow n) + 5 in eqb-true (squaresBelow n) z (and-left (eqb (squaresBelow n) z) _ starts)
 
   pub squares-small : ((n - 1) * n ≤ 380) × ((n - 1) * n * (2 * n - 1) ≤ 14820)
   unfolding startsBehind
@@ -126,4 +134,19 @@ row-at n b h k hb =
 pub row-inside : (n b : ℕ) → 3 ≤ n → n ≤ 20 → b < n → rowStart n b + n ≤ 2865
 row-inside n b h k hb =
     let t = table-parted n b h k hb in
-    omega (arith, table-length, ap length (t .3), length-append (t .0) (sourceRow n b ++ t .1), length-append (sourceRow n b) (t .1), row-length n b hb, t .2)
+    omega (
+      arith,
+      table-length,
+      ap length (t .3),
+      length-append (t .0) (sourceRow n b ++ t .1),
+      length-append (sourceRow n b) (t .1),
+      row-length n b hb,
+      t .2,
+    )
+
+-- "The table and the rule of document 01 must agree at every entry": place r of the row of bus b holds the number of its source there
+pub every-entry : (n b r : ℕ) → 3 ≤ n → n ≤ 20 → b < n → r < n → getD sourceTable (rowStart n b + r) 0 ≡ suc (getD (sources n b) r 0)
+unfolding sourceRow
+every-entry n b r h k hb hr =
+    sym (getD-drop (rowStart n b) sourceTable r 0) ∙ sym (getD-take n (drop (rowStart n b) sourceTable) r 0 hr)
+    ∙ ap (λ xs. getD xs r 0) (row-at n b h k hb) ∙ map-within suc (sources n b) r 0 0 (rw (sources-length n b hb) hr)

@@ -2,7 +2,8 @@
 // Buses and generators are indices from 0, places of a priority too.
 ghost use mathlib.Core.Path.{_≡_};
 ghost use mathlib.Core.Bool.{_&&_, not};
-ghost use Prim.Native.Nat.{suc, _+_, _≤_, _<_};
+ghost use Prim.Native.Nat.{suc, _+_, _-_, _≤_, _<_};
+ghost use lib.ListN.{length, getD};
 ghost use Rattle.model.specs.Plant.{fit, stuckOpen};
 ghost use Rattle.model.specs.Priority.{sourceTable};
 ghost use Rattle.model.specs.Reports.{places, healthOf};
@@ -290,4 +291,13 @@ pub fn row_start(n: usize, b: usize) -> usize
 {
     let squares = (n - 1) * n * (2 * n - 1) / 6;
     squares - 5 + b * n
+}
+
+// The generator at place r of a bus's row: the one place where a priority is read. The table has numbers, from 1.
+pub fn source(row: &[u8], r: usize) -> usize
+    requires place { ⌜ r < length (now row) ⌝ }
+    requires number { ⌜ 1 ≤ getD (now row) r 0 ⌝ }
+    ensures { λ g. ⌜ g ≡ getD (now (row .entry)) r 0 - 1 ⌝ }
+{
+    row[r] as usize - 1
 }
