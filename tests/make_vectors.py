@@ -45,8 +45,8 @@ import ringsim as rs  # noqa: E402
 CRATES = os.path.join(HERE, "..", "crates")
 KINDS = (rs.GENERATOR, rs.GENERATOR_BREAKER, rs.BUS_BREAKER)
 
-# The rules that are built: document 01's with Notes 3, 4 and 5 of document 02. Notes 1 and 2 add calls, and have no switch.
-RULES = rs.Rules(note3=True, note4=True, note5=True)
+# The rules that are built: document 01's with Notes 3 to 6 of document 02. Notes 1 and 2 add calls, and have no switch.
+RULES = rs.Rules(note3=True, note4=True, note5=True, note6=True)
 
 
 def under(rules, *modules):
