@@ -43,8 +43,8 @@ pub fn usable_generators(health: Health) -> [bool; 20]
     usable
 }
 
-// The source priorities of every ring, as the printed sheets have them (document 02, Note 6): "sizes 3 to 20 one behind the other, a row
-// a bus, 2,865 entries". An entry is a generator's number, from 1.
+// "a row a bus, 2,865 entries": the source priorities as the printed sheets have them, "sizes 3 to 20 one behind the other" (document 02,
+// Note 6). An entry is a generator's number, from 1.
 #[rattlefmt::skip]
 const SOURCES: [u8; 2865] = [
     // n = 3
