@@ -5,7 +5,7 @@ use mathlib.Core.Bool.{Bool, true, false, _||_, cond}
 use mathlib.Core.Logic.{_⊎_, inl, inr}
 use mathlib.Core.List.{List, [], _∷_}
 use mathlib.Core.Option.{Option, none, some}
-use Prim.Native.Nat.{ℕ, zero, suc, _+_, _≤_, _<_}
+use Prim.Native.Nat.{ℕ, suc, _+_, _≤_, _<_}
 use native.Mathlib.Omega.{arith}
 use native.Mathlib.Numerals.{add-one}
 use lib.Dec.{ltb, eqb}
@@ -40,7 +40,6 @@ use Rattle.theory.specs.Proofs.Paths.{
   tried-at,
 }
 use Rattle.theory.specs.Proofs.Choosing.{safe-chosen, chosen-ends}
-use Rattle.planner.specs.declared.progress.Progress.{Progress}
 use Rattle.paths.specs.declared.Span.{Span}
 use Rattle.paths.specs.declared.Found.{Found}
 use Rattle.paths.specs.declared.Found.the-variants as found
@@ -50,16 +49,19 @@ use Rattle.walks.specs.Walk.{outward, outward-path, closedBy, reach, reach-at, 
 use Rattle.paths.specs.Search.{spanOf, passesBy, pathFound}
 use Rattle.paths.specs.Owner.{owner, pathSteps, passes, ends-in, owner-more, walk-choice}
 
--- the choice of the bus served last
-unfoldable pub lastChoice : ℕ → PartHealth → ℕ → Choice
-lastChoice n H zero = Dark
-lastChoice n H (suc k) = choiceOf n (plan n H k)
+-- the owner of each bus, and the commands that the paths chosen so far call for
+pub record Progress : Type 0 where
+  pub owners : List ℕ
+  pub commands : Commands
 
--- after the first b buses: the owner of each bus, and the commands that the paths chosen so far call for
+-- the same in the arrays that code keeps: the owners, the generators, with which their breakers go, and the bus breakers
+abbrev pub kept : List ℕ → List Bool → List Bool → Progress
+kept o gs l = record { owners = o; commands = record { generators = gs; «generator_breakers» = gs; «bus_breakers» = l } }
+
+-- after the first b buses
 unfoldable pub served : ℕ → PartHealth → ℕ → Progress
 served n H b =
     record {
-      last = record { choice = lastChoice n H b };
       owners = places (λ v. cond (ltb v n) (owner n H (chosen n H b) v) 0);
       commands = commandPlaces (onPaths n (chosen n H b));
     }
@@ -81,32 +83,26 @@ commandsWith s g l =
 abbrev pub pathLine : ℕ → Path → List ℕ
 pathLine n w = outward n (w .rising) (w .source) (pathSteps n w)
 
--- the progress with path w taken
-unfoldable pub taken : ℕ → PartHealth → Progress → Path → Progress
-taken n H s w =
+-- the progress with path w taken, by the health of each bus breaker
+unfoldable pub taken : ℕ → (ℕ → ℕ) → Progress → Path → Progress
+taken n B s w =
     let l = setAll true (pathLine n w) (s .commands .«bus_breakers») in
     let g = suc (w .source) in
     record {
-      last = record { choice = choiceOf n (some w) };
       owners =
-          setAll g (reach n (closedBy (breakersOf H) l) false (w .bus) n)
-          (setAll g (reach n (closedBy (breakersOf H) l) true (w .bus) n) (s .owners));
+          setAll g (reach n (closedBy B l) false (w .bus) n)
+          (setAll g (reach n (closedBy B l) true (w .bus) n) (s .owners));
       commands = commandsWith s (w .source) l;
     }
 
--- the same from what code finds on the way: what the path is called, its generator's number, its span, the breakers and the owners
-pub taken-by : (n : ℕ) (H : PartHealth) (s : Progress) (w : Path) (c : Choice) (g : ℕ) (p : Span) (l : List Bool) (o o′ : List ℕ)
-    → c ≡ choiceOf n (some w) → g ≡ suc (w .source) → p ≡ spanOf n w
-    → l ≡ setAll true (outward n (w .rising) (w .source) (p .steps)) (s .commands .«bus_breakers»)
-    → o ≡ setAll g (reach n (closedBy (breakersOf H) l) true (w .bus) n) (s .owners)
-    → o′ ≡ setAll g (reach n (closedBy (breakersOf H) l) false (w .bus) n) o
-    → record { last = record { choice = c }; owners = o′; commands = commandsWith s (w .source) l } ≡ taken n H s w
+-- the same from what code finds on the way: the path's generator's number, its span, the breakers and the owners
+pub taken-by : (n : ℕ) (B : ℕ → ℕ) (o₀ : List ℕ) (gs l₀ : List Bool) (w : Path) (g : ℕ) (p : Span) (l : List Bool) (o o′ : List ℕ)
+    → g ≡ suc (w .source) → p ≡ spanOf n w → l ≡ setAll true (outward n (w .rising) (w .source) (p .steps)) l₀
+    → o ≡ setAll g (reach n (closedBy B l) true (w .bus) n) o₀
+    → o′ ≡ setAll g (reach n (closedBy B l) false (w .bus) n) o
+    → kept o′ (set gs (w .source) true) l ≡ taken n B (kept o₀ gs l₀) w
 unfolding taken
-taken-by n H s w c g p l o o′ ec eg ep el eo eo′ = rw (eo′, eo, el, ep, eg, ec)
-
--- the progress with a bus left dark
-abbrev pub darkened : Progress → Progress
-darkened s = record { last = record { choice = Dark }; owners = s .owners; commands = s .commands }
+taken-by n B o₀ gs l₀ w g p l o o′ eg ep el eo eo′ = rw (eo′, eo, el, ep, eg)
 
 -- the choices of the first b buses
 unfoldable pub choicesTo : ℕ → PartHealth → ℕ → List BusChoice
@@ -159,19 +155,15 @@ module _ (n : ℕ) (H : PartHealth) (b : ℕ) (hb : b < n) where
   unfolding plan chosen
   chosen-next o e = rw (add-one b, e)
 
-  last-next : lastChoice n H (b + 1) ≡ choiceOf n (plan n H b)
-  unfolding lastChoice
-  last-next = rw (add-one b)
-
   -- the first path that passes by the owners is the plan's
   pub served-choice : (O : ℕ → ℕ) → ((v : ℕ) → v < n → O v ≡ owner n H (chosen n H b) v) → plan n H b ≡ first (passes n H O) (paths n b)
   unfolding plan
   served-choice O is = walk-choice n H (chosen n H b) O b hb (safe-chosen n H b (omega arith)) is
 
   -- no path
-  pub served-dark : plan n H b ≡ none → darkened (served n H b) ≡ served n H (b + 1)
-  unfolding served addPath choiceOf
-  served-dark e = rw (chosen-next none e, last-next, e)
+  pub served-dark : plan n H b ≡ none → served n H b ≡ served n H (b + 1)
+  unfolding served addPath
+  served-dark e = rw (chosen-next none e)
 
   -- path w
   module _ (w : Path) (hn : n ≤ largest) (e : plan n H b ≡ some w) where
@@ -256,11 +248,11 @@ module _ (n : ℕ) (H : PartHealth) (b : ℕ) (hb : b < n) where
               (first-at (permitted n H (chosen n H b)) (paths n b) w e .1) (w .bus) v (ends-in (ends .0) .1) hv)))
           each v (inr hv) = rw (not-reached true v hv, not-reached false v hv, le-ltb v n hv)
 
-    pub served-path : taken n H (served n H b) w ≡ served n H (b + 1)
+    pub served-path : taken n (breakersOf H) (served n H b) w ≡ served n H (b + 1)
     unfolding taken addPath served
     served-path =
         let l = setAll true (pathLine n w) (served n H b .commands .«bus_breakers») in
-        rw (chosen-next (some w) e, last-next, e, ← commanded l lines, ← owns l lines)
+        rw (chosen-next (some w) e, ← commanded l lines, ← owns l lines)
 
 -- by the arrays of a search and its answer f
 module _ (n : ℕ) (h : Health) (b : ℕ) (usable : List Bool) (s : Progress) (f : Found) (hb : b < n) (hn : n ≤ largest)
@@ -281,31 +273,25 @@ module _ (n : ℕ) (h : Health) (b : ℕ) (usable : List Bool) (s : Progress) (f
       owners : ℕ → ℕ
       owners = at (served n (healthOf h) b .owners)
 
-  pub serve-dark : {t : Progress} → f ≡ found.Nothing → t ≡ darkened s → t ≡ served n (healthOf h) (b + 1)
-  serve-dark e d = rw (d, is) (served-dark n (healthOf h) b hb (rw e at found-plan))
+  pub serve-dark : f ≡ found.Nothing → (Dark ≡ choiceOf n (plan n (healthOf h) b)) × (s ≡ served n (healthOf h) (b + 1))
+  unfolding choiceOf
+  serve-dark e =
+      let p = rw e at found-plan in
+      (rw p, is ∙ served-dark n (healthOf h) b hb p)
 
   module _ (g : ℕ) (r : Bool) (e : f ≡ found.Path g r) where
     pub serve-source : g < n
     unfolding plan
     serve-source = chosen-ends n (healthOf h) (chosen n (healthOf h) b) b (pathTo b g r) hb (rw e at found-plan) .0 .source
 
-    pub serve-path : {t : Progress} → t ≡ taken n (healthOf h) s (pathTo b g r) → t ≡ served n (healthOf h) (b + 1)
-    serve-path d = rw (d, is) (served-path n (healthOf h) b hb (pathTo b g r) hn (rw e at found-plan))
+    pub serve-path : {t : Progress} {c : Choice} → t ≡ taken n (at (h .«bus_breakers»)) s (pathTo b g r) → c ≡ choiceOf n (some (pathTo b g r))
+        → (c ≡ choiceOf n (plan n (healthOf h) b)) × (t ≡ served n (healthOf h) (b + 1))
+    unfolding healthOf
+    serve-path d q =
+        let p = rw e at found-plan in
+        (q ∙ sym (ap (choiceOf n) p), rw (d, is) (served-path n (healthOf h) b hb (pathTo b g r) hn p))
 
 -- ---- before the first bus and after the last
-
--- no bus is served: the arrays that code begins with
-abbrev pub noProgress : Progress
-noProgress =
-    record {
-      last = record { choice = Dark };
-      owners = replicate largest 0;
-      commands = record {
-        generators = replicate largest false;
-        «generator_breakers» = replicate largest false;
-        «bus_breakers» = replicate largest false;
-      };
-    }
 
 blank : {A : Type 0} (f : ℕ → A) (d : A) → ((v : ℕ) → v < largest → f v ≡ d) → replicate largest d ≡ places f
 blank f d h = is-places f (replicate largest d) d (length-replicate largest d) (λ v l. getD-replicate largest v d d l ∙ sym (h v l))
@@ -315,8 +301,9 @@ same true x = refl
 same false x = refl
 
 module _ (n : ℕ) (H : PartHealth) where
-  pub served-none : noProgress ≡ served n H 0
-  unfolding served chosen lastChoice owner onPaths first anyOf commandPlaces
+  -- no bus is served: the arrays that code begins with
+  pub served-none : kept (replicate largest 0) (replicate largest false) (replicate largest false) ≡ served n H 0
+  unfolding served chosen owner onPaths first anyOf commandPlaces
   served-none =
       rw (blank (λ v. cond (ltb v n) (owner n H [] v) 0) 0 (λ v l. same (ltb v n) 0), blank (λ p. false) false (λ v l. refl))
 
@@ -324,12 +311,11 @@ module _ (n : ℕ) (H : PartHealth) where
   unfolding choicesTo
   choices-none = blank _ _ (λ v l. rw (le-ltb v 0 (omega arith)))
 
-  pub choices-more : (b : ℕ) → set (choicesTo n H b) b (served n H (b + 1) .last) ≡ choicesTo n H (b + 1)
-  unfolding choicesTo served lastChoice
+  pub choices-more : (b : ℕ) → set (choicesTo n H b) b (record { choice = choiceOf n (plan n H b) }) ≡ choicesTo n H (b + 1)
+  unfolding choicesTo
   choices-more b =
-      let last : lastChoice n H (b + 1) ≡ choiceOf n (plan n H b) = rw (add-one b) in
-      rw last (rw (below-last (choiceOf n (plan n H b)) Dark b)
-      at (places-set (chosenTo b) (chosenTo (b + 1)) b (λ v ne. rw (below-other (choiceOf n (plan n H v)) Dark v b ne))))
+      rw (below-last (choiceOf n (plan n H b)) Dark b)
+      at (places-set (chosenTo b) (chosenTo (b + 1)) b (λ v ne. rw (below-other (choiceOf n (plan n H v)) Dark v b ne)))
     where
       chosenTo : ℕ → ℕ → BusChoice
       chosenTo k v = record { choice = cond (ltb v k) (choiceOf n (plan n H v)) Dark }

@@ -9,7 +9,6 @@ use model::BusChoice;
 use model::Choice;
 use model::Commands;
 use model::Health;
-use progress::Progress;
 
 mod progress;
 
@@ -34,20 +33,28 @@ pub fn plan(n: u8, health: Health) -> Planned
         choice: Choice::Dark,
     };
     let mut choices = [dark; 20];
-    let mut progress = Progress {
-        last: dark,
-        owners: [0u8; 20],
-        commands: Commands {
-            generators: [false; 20],
-            generator_breakers: [false; 20],
-            bus_breakers: [false; 20],
-        },
-    };
+    let mut owners = [0u8; 20];
+    let mut generators = [false; 20];
+    let mut closed = [false; 20];
     for b in 0..size {
-        progress = progress::serve(size, &table, health, usable, progress, b);
-        let last = progress.last;
-        choices[b] = last;
+        let choice = progress::serve(
+            size,
+            &table,
+            health,
+            &usable,
+            &mut owners,
+            &mut generators,
+            &mut closed,
+            b,
+        );
+        choices[b] = BusChoice { choice };
     }
-    let commands = progress.commands;
+    // A path has its generator and that generator's breaker.
+    let generator_breakers = generators;
+    let commands = Commands {
+        generators,
+        generator_breakers,
+        bus_breakers: closed,
+    };
     Planned { choices, commands }
 }

@@ -334,8 +334,3 @@ module _ {A : Type 0} (x : A) (n k m d : ℕ) (l : List A) where
     pub reach-end : m ≤ d → setAll x (reach n C r k (m - d)) l ≡ l
     unfolding reach setAll
     reach-end h = let z : m - d ≡ 0 = omega arith in rw z
-
--- no steps, no store
-pub outward-none : {A : Type 0} (x : A) (n k m : ℕ) (l : List A) (r : Bool) → m ≡ 0 → setAll x (outward n r k m) l ≡ l
-unfolding outward setAll
-outward-none x n k m l r e = rw e

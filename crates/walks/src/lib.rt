@@ -83,24 +83,20 @@ pub fn clear(
     free(owners[k], number)
 }
 
-// The bus breakers on chosen paths, with those of one path more: so many outward from its generator's bus, none for an own path.
-pub fn close(n: usize, closed: [bool; 20], g: usize, rising: bool, steps: usize) -> [bool; 20]
+// Sets the bus breakers of one path more, so many outward from its generator's bus, none for an own path, among those on chosen paths.
+// In place, since a plan keeps one array from path to path.
+pub fn close(n: usize, closed: &mut [bool; 20], g: usize, rising: bool, steps: usize)
     requires { ⌜ (g < n) × (steps < n) × (n ≤ 20) ⌝ }
-    ensures { λ r. ⌜ r ≡ setAll true (outward n rising g steps) closed ⌝ }
+    ensures { λ _. ⌜ now (closed .exit) ≡ setAll true (outward n rising g steps) (now (closed .entry)) ⌝ }
 {
-    let mut c = closed;
-    if steps == 0 {
-        return c;
-    }
     let mut k = g;
     let mut done = 0;
     while done < steps {
         let i = breaker_beside(n, k, rising);
-        c[i] = true;
+        closed[i] = true;
         k = bus_beside(n, k, rising);
         done += 1;
     }
-    c
 }
 
 // Whether a bus breaker counts as closed: it is stuck closed, or on a chosen path.
@@ -113,32 +109,31 @@ fn counted_closed(breaker: u8, chosen: bool) -> bool
     chosen
 }
 
-// The owners with this number at bus b and at those after it on one side while the breakers between count as closed.
+// Gives this number to bus b and to those after it on one side while the breakers between count as closed: in place too.
 pub fn spread(
     n: usize,
     breakers: &[u8; 20],
     closed: &[bool; 20],
-    owners: [u8; 20],
+    owners: &mut [u8; 20],
     b: usize,
     number: u8,
     rising: bool,
-) -> [u8; 20]
+)
     requires { ⌜ (b < n) × (n ≤ 20) ⌝ }
-    ensures { λ r. ⌜
-        r ≡ setAll number (reach n (closedBy (at (now (breakers .entry))) (now (closed .entry))) rising b n) owners
+    ensures { λ _. ⌜
+        now (owners .exit)
+        ≡ setAll number (reach n (closedBy (at (now (breakers .entry))) (now (closed .entry))) rising b n) (now (owners .entry))
         ⌝ }
 {
-    let mut o = owners;
     let mut k = b;
     let mut done = 0;
     while done < n {
-        o[k] = number;
+        owners[k] = number;
         let i = breaker_beside(n, k, rising);
         if !counted_closed(breakers[i], closed[i]) {
-            return o;
+            return;
         }
         k = bus_beside(n, k, rising);
         done += 1;
     }
-    o
 }

@@ -6,19 +6,17 @@ use mathlib.Core.Path.{_≡_, sym, _∙_}
 use Prim.Native.Nat.{_<_, _-_}
 use native.Mathlib.Nat.{sub-zero}
 use native.Mathlib.Omega.{arith}
-use lib.ListN.{length, length-set}
 use borrow.Author.Tests.{not-true, not-false}
 use Rattle.walks.specs.Arrays.{at, setAll}
 use Rattle.walks.specs.Walk.{closedBy, reach, breaker-lt, bus-lt, reach-step, reach-stop, reach-end}
 
 abbrev Inv-loop : tie.InvT-loop
-Inv-loop n breakers closed b number rising o₀ k₀ done₀ o k done =
-    (k < n) × (setAll number (reach n (closedBy (at breakers) closed) rising b n) o₀
-    ≡ setAll number (reach n (closedBy (at breakers) closed) rising k (n - done)) o) ×
-    (length o ≡ 20)
+Inv-loop n breakers closed owners₀ b number rising k₀ done₀ owners k done =
+    (k < n) × (setAll number (reach n (closedBy (at breakers) closed) rising b n) owners₀
+    ≡ setAll number (reach n (closedBy (at breakers) closed) rising k (n - done)) owners)
 
 abbrev μ-loop : tie.MeasureT-loop
-μ-loop n breakers closed b number rising o₀ k₀ done₀ o k done = n - done
+μ-loop n breakers closed owners₀ b number rising k₀ done₀ owners k done = n - done
 
 module _ (c : tie.After-breaker-beside Inv-loop μ-loop) where
   inside : c .breaker-beside .result < 20
@@ -28,10 +26,10 @@ module _ (c : tie.After-breaker-beside Inv-loop μ-loop) where
       omega (arith, c .breaker-beside .ensures)
 
 loop-holds : tie.Need-loop-holds Inv-loop μ-loop
-loop-holds c = (search auto, rw sub-zero, search auto)
+loop-holds c = (search auto, rw sub-zero)
 
-array-write-o : tie.Need-array-write-o Inv-loop μ-loop
-array-write-o c = search auto
+element-write-owners : tie.Need-element-write-owners Inv-loop μ-loop
+element-write-owners c = search auto
 
 breaker-beside-requires : tie.Need-breaker-beside-requires Inv-loop μ-loop
 breaker-beside-requires c κs = search auto
@@ -48,7 +46,7 @@ returns c =
     let q = d .before .before in
     let a = q .before .args in
     let e = rw (d .breaker-beside .ensures) at (sym (c .before .counted-closed .ensures) ∙ not-true _ (c .if1 .taken)) in
-    sym (q .loop .inv .1 ∙ reach-stop (a .number) (a .n) (q .loop .k) (a .n) (q .loop .done) (q .loop .o)
+    sym (q .loop .inv .1 ∙ reach-stop (a .number) (a .n) (q .loop .k) (a .n) (q .loop .done) (q .loop .owners)
     (closedBy (at (a .breakers .now)) (a .closed .now)) (a .rising) (d .before .loop-test .taken) e)
 
 bus-beside-requires : tie.Need-bus-beside-requires Inv-loop μ-loop
@@ -69,16 +67,15 @@ loop-again c =
     rw (c .bus-beside .ensures) (
       bus-lt (a .n) (a .rising) (q .loop .k) (q .loop .inv .0),
       q .loop .inv .1
-          ∙ reach-step (a .number) (a .n) (q .loop .k) (a .n) (q .loop .done) (q .loop .o)
+          ∙ reach-step (a .number) (a .n) (q .loop .k) (a .n) (q .loop .done) (q .loop .owners)
           (closedBy (at (a .breakers .now)) (a .closed .now)) (a .rising) (d .before .loop-test .taken) e,
-      length-set (q .loop .o) (q .loop .k) (a .number) ∙ q .loop .inv .2,
     )
 
 returns-2 : tie.Need-returns-2 Inv-loop μ-loop
 returns-2 c =
     let q = c .before in
     let a = q .before .args in
-    sym (q .loop .inv .1 ∙ reach-end (a .number) (a .n) (q .loop .k) (a .n) (q .loop .done) (q .loop .o)
+    sym (q .loop .inv .1 ∙ reach-end (a .number) (a .n) (q .loop .k) (a .n) (q .loop .done) (q .loop .owners)
     (closedBy (at (a .breakers .now)) (a .closed .now)) (a .rising) (c .loop-test .left))
 
 pub spread-spec : {M : Type 1} → statement M
@@ -88,7 +85,7 @@ spread-spec =
     Inv-loop
     μ-loop
     loop-holds
-    array-write-o
+    element-write-owners
     breaker-beside-requires
     inside
     element-copy-out-counted-closed-2

@@ -2,26 +2,19 @@
 use Rattle.model.specs.Laws.Tests.{auto}
 use Rattle.planner.proofs.progress.take.Statement.{statement}
 use Rattle.planner.proofs.progress.take.Tie as tie
-use Rattle.model.specs.Reports.{healthOf}
 use Rattle.paths.specs.Search.{span-lt}
 use Rattle.planner.specs.Progress.{taken-by}
 
-array-write-generators : tie.Need-array-write-generators
-array-write-generators c = search auto
-
-array-write-generator-breakers : tie.Need-array-write-generator-breakers
-array-write-generator-breakers c = search auto
+element-write-generators : tie.Need-element-write-generators
+element-write-generators c = search auto
 
 span-of-requires : tie.Need-span-of-requires
 span-of-requires c κs = search auto
 
 close-requires : tie.Need-close-requires
 close-requires c κs =
-    let a = c .before .before .before .before .args in
+    let a = c .before .before .args in
     rw (c .before .span-of .ensures) (search auto, span-lt (a .n) (a .b) (a .g) (a .rising) (search auto) (search auto) .1, search auto)
-
-named-requires : tie.Need-named-requires
-named-requires c κs = search auto
 
 number-of-requires : tie.Need-number-of-requires
 number-of-requires c κs = search auto
@@ -33,22 +26,19 @@ spread-requires-2 : tie.Need-spread-requires-2
 spread-requires-2 c κs = search auto
 
 returns : tie.Need-returns
-unfolding healthOf
 returns c =
     let u = c .before .before .before in
-    let d = u .before .before .before .before .before in
-    taken-by _ _ _ _ _ _ _ _ _ _ (d .before .named .ensures) (d .number-of .ensures) (d .before .before .before .before .span-of .ensures)
-    (d .before .before .close .ensures) (u .spread .ensures) (c .spread2 .ensures)
+    let d = u .before .before .before in
+    taken-by _ _ _ _ _ _ _ _ _ _ _ (d .number-of .ensures) (d .before .before .before .span-of .ensures) (d .before .close .ensures)
+    (u .spread .ensures) (c .spread2 .ensures)
 
 pub take-spec : {M : Type 1} → statement M
 take-spec =
     tie.close
     (tie.spec
-    array-write-generators
-    array-write-generator-breakers
+    element-write-generators
     span-of-requires
     close-requires
-    named-requires
     number-of-requires
     spread-requires
     spread-requires-2
