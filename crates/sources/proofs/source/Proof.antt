@@ -14,7 +14,7 @@ sub-result : tie.Need-sub-result
 sub-result c = search auto
 
 returns : tie.Need-returns
-returns c = search auto
+returns c = omega arith
 
 pub source-spec : {M : Type 1} → statement M
 source-spec = tie.close (tie.spec shared-slice-read-result cast-result sub-result returns)
