@@ -21,29 +21,29 @@ module _ (n : ℕ) (H : PartHealth) where
   source-feeds : {b : ℕ} {w : Path} → Supplies n H b w → mayFeed H (w .source) ≡ true
   unfolding mayFeed
   source-feeds {w = w} s =
-      and-intro (fit (H (generator (w .source)))) _ (s .usable .runs)
-      (not-of (stuckOpen (H (generatorBreaker (w .source)))) (s .usable .breaker))
+      and-intro (fit (H .health (generator (w .source)))) _ (s .usable .runs)
+      (not-of (stuckOpen (H .health (generatorBreaker (w .source)))) (s .usable .breaker))
 
   module _ (g : ℕ) {r : Bool} (is : r ≡ mayFeed H g) where
     pub generator-matters : Matters n H (generator g) r
     unfolding canFail mayFeed
     generator-matters = record {
-      fails = λ e. and-left (fit (H (generator g))) _ (sym is ∙ e);
+      fails = λ e. and-left (fit (H .health (generator g))) _ (sym is ∙ e);
       idle = λ e b w s m. contra (source-feeds s) (ap (mayFeed H) (sym (generator-on n w g m)) ∙ sym is ∙ e);
     }
 
     pub generator-breaker-matters : Matters n H (generatorBreaker g) r
     unfolding canFail mayFeed
     generator-breaker-matters = record {
-      fails = λ e. and-right (fit (H (generator g))) _ (sym is ∙ e);
+      fails = λ e. and-right (fit (H .health (generator g))) _ (sym is ∙ e);
       idle = λ e b w s m. contra (source-feeds s) (ap (mayFeed H) (sym (generator-breaker-on n w g m)) ∙ sym is ∙ e);
     }
 
-  pub bus-breaker-matters : (i : ℕ) {r : Bool} → r ≡ not (stuckOpen (H (busBreaker i))) → Matters n H (busBreaker i) r
+  pub bus-breaker-matters : (i : ℕ) {r : Bool} → r ≡ not (stuckOpen (H .health (busBreaker i))) → Matters n H (busBreaker i) r
   unfolding canFail
   bus-breaker-matters i is = record {
     fails = λ e. sym is ∙ e;
     idle = λ e b w s m.
         let t = path-at i (s .ends) (bus-breaker-on n w i m) in
-        contra (is ∙ not-of (stuckOpen (H (busBreaker i))) (s .usable .line i (t .0) (t .1))) e;
+        contra (is ∙ not-of (stuckOpen (H .health (busBreaker i))) (s .usable .line i (t .0) (t .1))) e;
   }

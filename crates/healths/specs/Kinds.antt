@@ -17,7 +17,7 @@ use Rattle.model.specs.Laws.Parts.{Sized, some-part, no-part}
 
 -- p has a health of its kind
 abbrev pub OfKind : Health → Part → Type 0
-OfKind h p = healthOfKind p (healthOf h p) ≡ true
+OfKind h p = healthOfKind p (healthOf h .health p) ≡ true
 
 -- beyond the arrays every part is fit
 beyond : (h : Health) → Sized h → (p : Part) → largest < number p → OfKind h p
@@ -31,16 +31,16 @@ beyond h s (BusBreaker zero) l = absurd (omega arith)
 beyond h s (BusBreaker (suc i)) l = rw (List·getD-eq-default (h .«bus_breakers») 0 {n = i} (omega (arith, s .bus-breakers)))
 
 -- one part with a health of another kind
-pub some-outside : (h : Health) (n : ℕ) (p : Part) → InRing n p → healthOfKind p (healthOf h p) ≡ false
+pub some-outside : (h : Health) (n : ℕ) (p : Part) → InRing n p → healthOfKind p (healthOf h .health p) ≡ false
     → healthOutside (healthOf h) (parts n) ≡ true
 unfolding healthOutside
-some-outside h n p m e = some-part (λ q. not (healthOfKind q (healthOf h q))) n p m (not-of _ e)
+some-outside h n p m e = some-part (λ q. not (healthOfKind q (healthOf h .health q))) n p m (not-of _ e)
 
 -- none among those that the arrays hold
 pub none-outside : (h : Health) → Sized h → (n : ℕ) → ((p : Part) → InRing (min n largest) p → OfKind h p)
     → healthOutside (healthOf h) (parts n) ≡ false
 unfolding healthOutside
-none-outside h s n held = no-part (λ q. not (healthOfKind q (healthOf h q))) n (λ p m. rw (go p m (dec-lt largest (number p))))
+none-outside h s n held = no-part (λ q. not (healthOfKind q (healthOf h .health q))) n (λ p m. rw (go p m (dec-lt largest (number p))))
   where
     go : (p : Part) → InRing n p → (largest < number p) ⊎ (number p ≤ largest) → OfKind h p
     go p m (inl l) = beyond h s p l

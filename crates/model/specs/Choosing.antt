@@ -20,11 +20,11 @@ onPaths n ws p = anyOf (λ w. anyOf (samePart p) (pathParts n w)) ws
 
 -- "its generator is fit, no breaker on it is stuck open"
 unfoldable pub usable : ℕ → PartHealth → Path → Bool
-usable n H w = fitGenerator H (w .source) && allOf (λ p. not (stuckOpen (H p))) (pathBreakers n w)
+usable n H w = fitGenerator H (w .source) && allOf (λ p. not (stuckOpen (H .health p))) (pathBreakers n w)
 
 -- "counting as closed the stuck-closed breakers and those on this way and on the ways already chosen"
 unfoldable pub countedClosed : ℕ → PartHealth → List Path → ℕ → Bool
-countedClosed n H ws i = stuckClosed (H (busBreaker i)) || onPaths n ws (busBreaker i)
+countedClosed n H ws i = stuckClosed (H .health (busBreaker i)) || onPaths n ws (busBreaker i)
 
 -- "no two chosen generators' buses would be joined"
 unfoldable pub isolated : ℕ → PartHealth → List Path → Bool

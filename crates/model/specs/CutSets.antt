@@ -30,8 +30,8 @@ mostFaults = 3
 -- "A further fault is a fit generator going off, or a breaker not stuck open becoming so.": part p can fail
 unfoldable pub canFail : PartHealth → Part → Bool
 canFail H (Generator k) = fitGenerator H (index k)
-canFail H (GeneratorBreaker k) = not (stuckOpen (H (GeneratorBreaker k)))
-canFail H (BusBreaker k) = not (stuckOpen (H (BusBreaker k)))
+canFail H (GeneratorBreaker k) = not (stuckOpen (H .health (GeneratorBreaker k)))
+canFail H (BusBreaker k) = not (stuckOpen (H .health (BusBreaker k)))
 
 -- the parts of a ring of n that can fail, in rising code
 unfoldable pub furtherFaults : ℕ → PartHealth → List Part

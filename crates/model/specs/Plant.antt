@@ -40,9 +40,11 @@ parts n = map generator (below n) ++ (map generatorBreaker (below n) ++ map busB
 abbrev pub InRing : ℕ → Part → Type 0
 InRing n p = (0 < number p) × (number p ≤ n)
 
--- the health of each part: the number of the word that brought it about
-abbrev pub PartHealth : Type 0
-PartHealth = Part → ℕ
+-- the health of each part, the number of the word that brought it about; and "the lock beside the health" (document 02, Note 7): whether a
+-- generator is locked
+pub record PartHealth : Type 0 where
+  pub health : Part → ℕ
+  pub locked : ℕ → Bool
 
 -- the command (document 01: order) of each part: true is on or closed
 abbrev pub PartCommands : Type 0
@@ -70,9 +72,10 @@ healthOfKind (Generator k) h = fit h || stuckOff h
 healthOfKind (GeneratorBreaker k) h = fit h || stuckOpen h || stuckClosed h
 healthOfKind (BusBreaker k) h = fit h || stuckOpen h || stuckClosed h
 
--- "A generator is fit": the one definition by which choosing, running and reaching judge generator g
+-- "Fit, in choosing, in the plant, in further faults and in judging a dark bus, now means not stuck off and not locked." (Note 7): the one
+-- definition by which they judge generator g
 abbrev pub fitGenerator : PartHealth → ℕ → Bool
-fitGenerator H g = fit (H (generator g))
+fitGenerator H g = fit (H .health (generator g)) && not (H .locked g)
 
 -- "A fit part does what it was last ordered; a stuck part ignores orders.": a breaker of this health and command is closed
 abbrev pub closed : ℕ → Bool → Bool
@@ -108,7 +111,7 @@ connected n C a b = allOf C (arc n a (up n a b)) || allOf C (arc n b (up n b a))
 
 -- the closed bus breakers
 abbrev pub busBreakerClosed : PartHealth → PartCommands → ℕ → Bool
-busBreakerClosed H C i = closed (H (busBreaker i)) (C (busBreaker i))
+busBreakerClosed H C i = closed (H .health (busBreaker i)) (C (busBreaker i))
 
 -- "A generator is running when it is fit and ordered on"
 abbrev pub running : PartHealth → PartCommands → ℕ → Bool
@@ -116,7 +119,7 @@ running H C g = fitGenerator H g && C (generator g)
 
 -- "it feeds every bus joined to its own while its generator breaker is closed": generator g feeds bus b
 unfoldable pub feeds : ℕ → PartHealth → PartCommands → ℕ → ℕ → Bool
-feeds n H C b g = running H C g && closed (H (generatorBreaker g)) (C (generatorBreaker g)) && connected n (busBreakerClosed H C) g b
+feeds n H C b g = running H C g && closed (H .health (generatorBreaker g)) (C (generatorBreaker g)) && connected n (busBreakerClosed H C) g b
 
 -- the generators that feed bus b, rising
 unfoldable pub feeders : ℕ → PartHealth → PartCommands → ℕ → List ℕ
@@ -136,5 +139,5 @@ busFeed n H C b = feedBy (feeders n H C b)
 pub record Reaches (n : ℕ) (H : PartHealth) (b g : ℕ) : Type 0 where
   pub inside : g < n
   pub runs : fitGenerator H g ≡ true
-  pub breaker : stuckOpen (H (generatorBreaker g)) ≡ false
-  pub line : Leads n (λ i. not (stuckOpen (H (busBreaker i)))) g b
+  pub breaker : stuckOpen (H .health (generatorBreaker g)) ≡ false
+  pub line : Leads n (λ i. not (stuckOpen (H .health (busBreaker i)))) g b

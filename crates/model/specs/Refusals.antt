@@ -2,7 +2,7 @@
 use mathlib.Core.Bool.{Bool, not, _&&_, _||_, cond, Bool·beq}
 use mathlib.Core.List.{List, [], _∷_, _++_}
 use mathlib.Core.Option.{Option, none, some}
-use Prim.Native.Nat.{ℕ, _+_, _*_, min}
+use Prim.Native.Nat.{ℕ, suc, _+_, _*_, min}
 use lib.Dec.{ltb, eqb}
 use lib.ListN.{length}
 use Rattle.model.specs.declared.Part.{Part}
@@ -12,7 +12,7 @@ use Rattle.model.specs.declared.Report.{Report}
 use Rattle.model.specs.declared.Ring.{Ring}
 use Rattle.model.specs.declared.ReportAnswer.{ReportAnswer}
 use Rattle.model.specs.declared.ReportAnswer.the-variants.{Read, Refused}
-use Rattle.model.specs.Lists.{anyOf, isNone}
+use Rattle.model.specs.Lists.{below, anyOf, isNone}
 use Rattle.model.specs.Values.{number, wordNumber, reportValues}
 use Rattle.model.specs.Plant.{PartHealth, PartCommands, smallest, largest, parts, fit, healthOfKind}
 use Rattle.model.specs.Choosing.{commands}
@@ -47,11 +47,12 @@ sizeOutside n = ltb n smallest || ltb largest n
 unfoldable pub notOfRing : ℕ → Part → Bool
 notOfRing n p = ltb (number p) 1 || ltb (min n largest) (number p)
 
--- 6: "word above 3, word 1 for a breaker, or 2 or 3 for a generator"
+-- 6: "word above 3, word 1 for a breaker, or 2 or 3 for a generator"; "refusal 6 now meets words above 5 and these two for a breaker" (document
+-- 02, Note 7)
 unfoldable pub wordOfOtherKind : Part → ℕ → Bool
-wordOfOtherKind (Generator k) v = ltb 3 v || eqb v 2 || eqb v 3
-wordOfOtherKind (GeneratorBreaker k) v = ltb 3 v || eqb v 1
-wordOfOtherKind (BusBreaker k) v = ltb 3 v || eqb v 1
+wordOfOtherKind (Generator k) v = ltb 5 v || eqb v 2 || eqb v 3
+wordOfOtherKind (GeneratorBreaker k) v = ltb 5 v || eqb v 1 || eqb v 4 || eqb v 5
+wordOfOtherKind (BusBreaker k) v = ltb 5 v || eqb v 1 || eqb v 4 || eqb v 5
 
 -- 8: "order buffer shorter than the sheet"
 unfoldable pub tooShort : ℕ → List ℕ → Bool
@@ -59,18 +60,22 @@ tooShort room bytes = ltb room (length bytes)
 
 -- 9: "a health is not one of its part's kind", among the parts ps
 unfoldable pub healthOutside : PartHealth → List Part → Bool
-healthOutside H ps = anyOf (λ p. not (healthOfKind p (H p))) ps
+healthOutside H ps = anyOf (λ p. not (healthOfKind p (H .health p))) ps
 
 -- 9: "a part above n is not fit or not ordered off or open"
 unfoldable pub activeAbove : ℕ → PartHealth → PartCommands → Bool
-activeAbove n H C = anyOf (λ p. ltb n (number p) && (not (fit (H p)) || C p)) (parts largest)
+activeAbove n H C = anyOf (λ p. ltb n (number p) && (not (fit (H .health p)) || C p)) (parts largest)
 
--- 9: "the standing orders differ from those the health calls for"
+-- 9: "A part above n must be unlocked, or the record meets refusal 9" (Note 7)
+unfoldable pub lockedAbove : ℕ → PartHealth → Bool
+lockedAbove n H = anyOf (λ g. ltb n (suc g) && H .locked g) (below largest)
+
+-- 9: "the standing orders differ from those the health calls for"; "those that health and locks call for" (Note 7)
 unfoldable pub unplanned : ℕ → PartHealth → PartCommands → Bool
 unplanned n H C = anyOf (λ p. not (Bool·beq (C p) (commands n H p))) (parts largest)
 
 -- "In a record, number 9 is met when n is outside 3 to 20, a health is not one of its part's kind, a part above n is not
--- fit or not ordered off or open, or the standing orders differ from those the health calls for."
+-- fit or not ordered off or open, or the standing orders differ from those the health calls for."; a part above n is locked (Note 7)
 unfoldable pub badRing : Ring → Bool
 badRing ring =
     let H = healthOf (ring .health) in
@@ -79,6 +84,7 @@ badRing ring =
     (sizeOutside (ring .n)
     ∷ healthOutside H (parts largest)
     ∷ activeAbove (ring .n) H C
+    ∷ lockedAbove (ring .n) H
     ∷ unplanned (ring .n) H C
     ∷ [])
 
@@ -90,7 +96,7 @@ busOutside n bus = ltb bus 1 || ltb n bus
 unfoldable pub countAbove : ℕ → Bool
 countAbove k = ltb 64 k
 
--- the sheet from a ring's standing commands to those that its health calls for
+-- the sheet from a ring's standing commands to those that its health and locks call for
 unfoldable pub nextSheet : Ring → List ℕ
 nextSheet ring = sheet (ring .n) (commandsOf (ring .commands)) (healthOf (ring .health))
 

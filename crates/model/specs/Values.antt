@@ -9,7 +9,7 @@ use lib.ListN.{getD}
 use Rattle.model.specs.declared.Part.{Part}
 use Rattle.model.specs.declared.Part.the-variants.{Generator, GeneratorBreaker, BusBreaker}
 use Rattle.model.specs.declared.Word.{Word}
-use Rattle.model.specs.declared.Word.the-variants.{Fit, StuckOff, StuckOpen, StuckClosed}
+use Rattle.model.specs.declared.Word.the-variants.{Fit, StuckOff, StuckOpen, StuckClosed, Lock, Unlock}
 use Rattle.model.specs.declared.Outcome.{Outcome}
 use Rattle.model.specs.declared.Outcome.the-variants as outcome
 use Rattle.model.specs.declared.Choice.{Choice}
@@ -52,12 +52,14 @@ partCode p = firstCode p + index (number p)
 unfoldable pub samePart : Part → Part → Bool
 samePart p q = eqb (firstCode p) (firstCode q) && eqb (number p) (number q)
 
--- "Words: 0 fit again, 1 stuck off (generators), 2 stuck open, 3 stuck closed (breakers)."
+-- "Words: 0 fit again, 1 stuck off (generators), 2 stuck open, 3 stuck closed (breakers)."; "Word 4 locks it and word 5 unlocks it" (Note 7)
 abbrev pub wordNumber : Word → ℕ
 wordNumber Fit = 0
 wordNumber StuckOff = 1
 wordNumber StuckOpen = 2
 wordNumber StuckClosed = 3
+wordNumber Lock = 4
+wordNumber Unlock = 5
 
 -- "Each has its number as the answer": the number of an outcome, 0 where it is served
 abbrev pub outcomeNumber : Outcome → ℕ

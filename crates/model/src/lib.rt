@@ -8,12 +8,15 @@ pub enum Part {
     BusBreaker(u8),
 }
 
-// "Words: 0 fit again, 1 stuck off (generators), 2 stuck open, 3 stuck closed (breakers)."
+// "Words: 0 fit again, 1 stuck off (generators), 2 stuck open, 3 stuck closed (breakers)."; "Word 4 locks it and word 5 unlocks it" (document
+// 02, Note 7), a generator.
 pub enum Word {
     Fit,
     StuckOff,
     StuckOpen,
     StuckClosed,
+    Lock,
+    Unlock,
 }
 
 // "A report holds a part .. and a word."
@@ -39,11 +42,13 @@ pub const STUCK_OPEN: u8 = 2;
 
 pub const STUCK_CLOSED: u8 = 3;
 
-// The health of every part. A byte each, so that a damaged record can be held and refused.
+// The health of every part, a byte each, so that a damaged record can be held and refused; and "the lock beside the health" (document 02,
+// Note 7): true is locked.
 pub struct Health {
     pub generators: [u8; 20],
     pub generator_breakers: [u8; 20],
     pub bus_breakers: [u8; 20],
+    pub locked: [bool; 20],
 }
 
 // The command (document 01: order) of every part: true is on or closed.

@@ -41,11 +41,11 @@ pub record Least (n : ℕ) (H : PartHealth) (b k : ℕ) : Type 0 where
   pub dark : k ≡ 0 → isNone (plan n H b) ≡ true
 
 module _ (n : ℕ) (H : PartHealth) (b : ℕ) (hb : b < n) where
-  may-feed-at : (g : ℕ) → mayFeed H g ≡ true → (fit (H (generator g)) ≡ true) × (stuckOpen (H (generatorBreaker g)) ≡ false)
+  may-feed-at : (g : ℕ) → mayFeed H g ≡ true → (fit (H .health (generator g)) ≡ true) × (stuckOpen (H .health (generatorBreaker g)) ≡ false)
   unfolding mayFeed
   may-feed-at g e =
-      let A = fit (H (generator g)) in
-      (and-left A _ e, not-true (stuckOpen (H (generatorBreaker g))) (and-right A _ e))
+      let A = fit (H .health (generator g)) in
+      (and-left A _ e, not-true (stuckOpen (H .health (generatorBreaker g))) (and-right A _ e))
 
   -- ---- the paths that supply the bus
 
@@ -72,7 +72,7 @@ module _ (n : ℕ) (H : PartHealth) (b : ℕ) (hb : b < n) where
         usable = record {
           runs = t .0;
           breaker = t .1;
-          line = λ i hi u. not-true (stuckOpen (H (busBreaker i))) (side-line r g (l .line) i hi u);
+          line = λ i hi u. not-true (stuckOpen (H .health (busBreaker i))) (side-line r g (l .line) i hi u);
         };
       }
 
@@ -220,7 +220,7 @@ module _ (n : ℕ) (H : PartHealth) (b : ℕ) (hb : b < n) where
         }
       where
         feeds : (g : ℕ) → Reaches n H b g → mayFeed H g ≡ true
-        feeds g r = and-intro (fit (H (generator g))) _ (r .runs) (not-of (stuckOpen (H (generatorBreaker g))) (r .breaker))
+        feeds g r = and-intro (fit (H .health (generator g))) _ (r .runs) (not-of (stuckOpen (H .health (generatorBreaker g))) (r .breaker))
 
         unreached : (rise ≡ 0) × (fall ≡ 0) → (g : ℕ) → Reaches n H b g → (g ≡ b) ⊎ (g ≢ b) → ⊥
         unreached z g r (inl q) = contra (feeds g r) (rw q e)

@@ -32,7 +32,7 @@ use Rattle.sources.specs.Sources.{mayFeed}
 
 -- bus breaker i is not stuck open
 abbrev pub passable : PartHealth → ℕ → Bool
-passable H i = not (stuckOpen (H (busBreaker i)))
+passable H i = not (stuckOpen (H .health (busBreaker i)))
 
 -- generator g of another bus may feed, and no breaker from bus b to it on one side is stuck open
 pub record Leading (n : ℕ) (H : PartHealth) (r : Bool) (b g : ℕ) : Type 0 where
@@ -134,16 +134,16 @@ module _ (n : ℕ) (H : PartHealth) (r : Bool) (b : ℕ) (hb : b < n) where
   nothing-met f = record { short = omega arith; found = λ l. absurd (omega arith); none = λ e. f }
 
   module _ (k d : ℕ) (w : Walked n H r b k d) where
-    pub walked-open : H (busBreaker (breakerBeside n r k)) ≡ 2 → Met n H r b 0
+    pub walked-open : H .health (busBreaker (breakerBeside n r k)) ≡ 2 → Met n H r b 0
     walked-open e = nothing-met (λ g l.
-        contra (eq-eqb (H (busBreaker (breakerBeside n r k))) 2 e)
-        (not-true (stuckOpen (H (busBreaker (breakerBeside n r k))))
+        contra (eq-eqb (H .health (busBreaker (breakerBeside n r k))) 2 e)
+        (not-true (stuckOpen (H .health (busBreaker (breakerBeside n r k))))
         (closed-on n b hb (passable H) r k g (w .at) (l .inside) (l .line) (omega (arith, w .far, w .past g l)))))
 
     pub walked-end : n ≤ d + 1 → Met n H r b 0
     walked-end h = nothing-met (λ g l. omega (arith, w .past g l, steps-lt n b hb r g (l .inside)))
 
-    module _ (room : d + 1 < n) (clear : H (busBreaker (breakerBeside n r k)) ≢ 2) where
+    module _ (room : d + 1 < n) (clear : H .health (busBreaker (breakerBeside n r k)) ≢ 2) where
       short : suc (steps n r b k) < n
       short = omega (arith, w .far)
 
@@ -153,7 +153,7 @@ module _ (n : ℕ) (H : PartHealth) (r : Bool) (b : ℕ) (hb : b < n) where
       on : Closed n (passable H) r b (busBeside n r k)
       on =
           closed-more n b hb (passable H) r k (w .at) short (w .line)
-          (not-of (stuckOpen (H (busBreaker (breakerBeside n r k)))) (ne-eqb (H (busBreaker (breakerBeside n r k))) 2 clear))
+          (not-of (stuckOpen (H .health (busBreaker (breakerBeside n r k)))) (ne-eqb (H .health (busBreaker (breakerBeside n r k))) 2 clear))
 
       pub walked-met : mayFeed H (busBeside n r k) ≡ true → Met n H r b (d + 1)
       walked-met e = record {

@@ -138,14 +138,14 @@ clearPath n B O w = clear n B O (suc (w .source)) (lower w) (pathSteps n w)
 
 -- what a search asks of a path: its generator may feed, and the walk along it is clear
 unfoldable pub passes : ℕ → PartHealth → (ℕ → ℕ) → Path → Bool
-passes n H O w = mayFeed H (w .source) && clearPath n (λ i. H (busBreaker i)) O w
+passes n H O w = mayFeed H (w .source) && clearPath n (λ i. H .health (busBreaker i)) O w
 
 -- what counted as closed still does
 counted-more : (n : ℕ) (H : PartHealth) (ws : List Path) (w : Path) (i : ℕ) → countedClosed n H ws i ≡ true
     → countedClosed n H (w ∷ ws) i ≡ true
 counted-more n H ws w i e = go (counted-at n H ws i e)
   where
-    go : (stuckClosed (H (busBreaker i)) ≡ true) ⊎ ((v : Path) × (v ∈ ws) × (i ∈ pathBusBreakers n v)) → countedClosed n H (w ∷ ws) i ≡ true
+    go : (stuckClosed (H .health (busBreaker i)) ≡ true) ⊎ ((v : Path) × (v ∈ ws) × (i ∈ pathBusBreakers n v)) → countedClosed n H (w ∷ ws) i ≡ true
     go (inl p) = counted-stuck n H (w ∷ ws) i p
     go (inr t) = counted-in n H i (List·Memᴰ·tail (t .1)) (t .2)
 
@@ -215,13 +215,13 @@ module _ {n : ℕ} {H : PartHealth} {ws : List Path} {w : Path} (safe : Safe n H
       g = w .source
 
       B : ℕ → ℕ
-      B i = H (busBreaker i)
+      B i = H .health (busBreaker i)
 
       to : permitted n H ws w ≡ true → passes n H O w ≡ true
       to e =
           let t = permitted-at ends e in
-          and-intro (mayFeed H g) _ (and-intro (fit (H (generator g))) _ (t .0 .runs)
-          (not-of (stuckOpen (H (generatorBreaker g))) (t .0 .breaker)))
+          and-intro (mayFeed H g) _ (and-intro (fit (H .health (generator g))) _ (t .0 .runs)
+          (not-of (stuckOpen (H .health (generatorBreaker g))) (t .0 .breaker)))
           (clear-of n B O (suc g) (upper w) (upper-lt h) (up n (lower w) (upper w)) (lower w) (lower-lt h) refl
           (record { line = t .0 .line; buses = λ x b. rw (is x (b .0)) (free-all (t .1) x b) }))
 
@@ -232,8 +232,8 @@ module _ {n : ℕ} {H : PartHealth} {ws : List Path} {w : Path} (safe : Safe n H
           (and-right (mayFeed H g) _ e) in
           permitted-of ends
           (record {
-            runs = and-left (fit (H (generator g))) _ u;
-            breaker = not-true (stuckOpen (H (generatorBreaker g))) (and-right (fit (H (generator g))) _ u);
+            runs = and-left (fit (H .health (generator g))) _ u;
+            breaker = not-true (stuckOpen (H .health (generatorBreaker g))) (and-right (fit (H .health (generator g))) _ u);
             line = c .line;
           })
           (frees (λ x b. rw (is x (b .0)) at (c .buses x b)))

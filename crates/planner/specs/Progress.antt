@@ -68,7 +68,7 @@ served n H b =
 
 -- the health of each bus breaker
 abbrev pub breakersOf : PartHealth → ℕ → ℕ
-breakersOf H i = H (busBreaker i)
+breakersOf H i = H .health (busBreaker i)
 
 -- the commands with a generator and its breaker on, and these bus breakers
 abbrev pub commandsWith : Progress → ℕ → List Bool → Commands

@@ -20,7 +20,7 @@ use Rattle.theory.specs.Theorems.Locality.{Agree, feed-ext}
 -- the refusal, and the whole answer
 pub refusal-ext : (n : ℕ) (H K : PartHealth) → Agree n H K → feedsRefusal n H ≡ feedsRefusal n K
 unfolding feedsRefusal healthOutside
-refusal-ext n H K same = rw (any-ext (λ p. not (healthOfKind p (H p))) (λ p. not (healthOfKind p (K p))) (parts n)
+refusal-ext n H K same = rw (any-ext (λ p. not (healthOfKind p (H .health p))) (λ p. not (healthOfKind p (K .health p))) (parts n)
     (λ p m. rw (same p (parts-at n p m))))
 
 pub answer-ext : (n : ℕ) (h k : Health) (c d : Commands) → Agree n (healthOf h) (healthOf k) → Agree n (commandsOf c) (commandsOf d)

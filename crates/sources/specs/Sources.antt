@@ -9,7 +9,7 @@ use Rattle.model.specs.Laws.Tests.{dec, dec-eq}
 
 -- the generator may feed: it is fit, and its breaker is not stuck open
 unfoldable pub mayFeed : PartHealth → ℕ → Bool
-mayFeed H g = fit (H (generator g)) && not (stuckOpen (H (generatorBreaker g)))
+mayFeed H g = fit (H .health (generator g)) && not (stuckOpen (H .health (generatorBreaker g)))
 
 -- .. of a generator of health g with a breaker of health h, by cases of the numbers: however the code words its test
 module _ (g h : ℕ) {k : Bool} (is : k ≡ fit g) where

@@ -15,7 +15,7 @@ use Rattle.model.specs.Laws.Parts.{some-part, no-part}
 
 -- "not fit or not ordered off or open"
 abbrev pub active : PartHealth → PartCommands → Part → Bool
-active H C p = not (fit (H p)) || C p
+active H C p = not (fit (H .health p)) || C p
 
 module _ (h : ℕ) (c : Bool) where
   pub unfit-active : (r : Bool) → (r ≡ false → ⊥) → h ≢ 0 → r ≡ not (fit h) || c

@@ -68,7 +68,7 @@ repeatsStart = planningFor (λ n H. allFit)
 unfoldable pub onePlan : Design
 onePlan =
     planningFor (λ n H.
-    cond (anyOf (λ p. not (eqb (H p) 0)) (parts n)) (reported allFit (record { part = Generator 1; word = StuckOff })) allFit)
+    cond (anyOf (λ p. not (eqb (H .health p) 0)) (parts n)) (reported allFit (record { part = Generator 1; word = StuckOff })) allFit)
 
 -- "sheets whose sizes don't count their orders": the sizes of the two phases exchanged
 unfoldable pub miscounts : Design
@@ -88,7 +88,7 @@ wavesExchanged = writing (λ xs ys. length ys ∷ length xs ∷ closingsFirst xs
 
 -- "A stuck-closed breaker counted as open because it was ordered open."
 unfoldable pub stuckClosedOpen : Design
-stuckClosedOpen = planningFor (λ n H p. cond (stuckClosed (H p)) 0 (H p))
+stuckClosedOpen = planningFor (λ n H p. cond (stuckClosed (H .health p)) 0 (H .health p))
 
 -- "A way that takes in the breaker behind its end bus": a rising path from another generator takes the breaker after its bus
 unfoldable pub breakerBehind : Design

@@ -222,7 +222,7 @@ full-length = length-replicate {A = ℕ} 122 0
 -- ---- the start
 
 -- every part of a blank ring is fit
-pub blank-fit : (n : ℕ) (p : Part) → InRing largest p → healthOf (blankRing n .health) p ≡ 0
+pub blank-fit : (n : ℕ) (p : Part) → InRing largest p → healthOf (blankRing n .health) .health p ≡ 0
 unfolding blankRing
 blank-fit n p i = health-places allFit p i
 

@@ -124,33 +124,33 @@ word-of-kind (BusBreaker k) StuckClosed e = refl
 
 -- a ring of n whose parts have healths of their kinds; above n they are fit
 pub record Kinds (n : ℕ) (ring : Ring) : Type 0 where
-  pub inside : (p : Part) → InRing n p → healthOfKind p (healthOf (ring .health) p) ≡ true
-  pub above : (p : Part) → InRing largest p → n < number p → healthOf (ring .health) p ≡ 0
+  pub inside : (p : Part) → InRing n p → healthOfKind p (healthOf (ring .health) .health p) ≡ true
+  pub above : (p : Part) → InRing largest p → n < number p → healthOf (ring .health) .health p ≡ 0
 
 pub steady-kinds : {n : ℕ} {W : World} → Steady n W → Kinds n (W .state .ring)
 steady-kinds s = record { inside = λ p i. rw (s .health p i) (s .kinds p i); above = λ p i l. s .above p i l .0 }
 
 -- a report that is not refused
 module _ {n : ℕ} {ring : Ring} (small : n ≤ largest) (k : Kinds n ring) (r : Report) (good : Good n r) where
-  told-is : (p : Part) → InRing largest p → healthOf (told ring r .health) p ≡ reported (healthOf (ring .health)) r p
+  told-is : (p : Part) → InRing largest p → healthOf (told ring r .health) .health p ≡ reported (healthOf (ring .health)) r p
   unfolding told
   told-is p i = health-places (reported (healthOf (ring .health)) r) p i
 
-  told-inside : (p : Part) → InRing n p → healthOfKind p (healthOf (told ring r .health) p) ≡ true
+  told-inside : (p : Part) → InRing n p → healthOfKind p (healthOf (told ring r .health) .health p) ≡ true
   unfolding reported
   told-inside p i = rw (told-is p (i .0, omega (arith, i .1))) (go (dec (samePart p (r .part))))
     where
       go : (samePart p (r .part) ≡ true) ⊎ (samePart p (r .part) ≡ false)
-          → healthOfKind p (cond (samePart p (r .part)) (wordNumber (r .word)) (healthOf (ring .health) p)) ≡ true
+          → healthOfKind p (cond (samePart p (r .part)) (wordNumber (r .word)) (healthOf (ring .health) .health p)) ≡ true
       go (inl e) = rw (e, same-eq p (r .part) e) (word-of-kind (r .part) (r .word) (good .word))
       go (inr e) = rw e (k .inside p i)
 
-  told-above : (p : Part) → InRing largest p → n < number p → healthOf (told ring r .health) p ≡ 0
+  told-above : (p : Part) → InRing largest p → n < number p → healthOf (told ring r .health) .health p ≡ 0
   unfolding reported
   told-above p i l = told-is p i ∙ go (dec (samePart p (r .part)))
     where
       go : (samePart p (r .part) ≡ true) ⊎ (samePart p (r .part) ≡ false)
-          → cond (samePart p (r .part)) (wordNumber (r .word)) (healthOf (ring .health) p) ≡ 0
+          → cond (samePart p (r .part)) (wordNumber (r .word)) (healthOf (ring .health) .health p) ≡ 0
       go (inl e) = absurd (omega (arith, ap number (same-eq p (r .part) e), good .inside .1))
       go (inr e) = rw e (k .above p i l)
 

@@ -186,8 +186,8 @@ pub record Steady (n : ℕ) (W : World) : Type 0 where
   pub size : W .state .ring .n ≡ n
   pub health : Agree n (healthOf (W .state .ring .health)) (W .plant .health)
   pub standing : Agree n (commandsOf (W .state .ring .commands)) (W .plant .last)
-  pub above : (p : Part) → InRing largest p → n < number p → (healthOf (W .state .ring .health) p ≡ 0) × (commandsOf (W .state .ring .commands) p ≡ false)
-  pub kinds : (p : Part) → InRing n p → healthOfKind p (W .plant .health p) ≡ true
+  pub above : (p : Part) → InRing largest p → n < number p → (healthOf (W .state .ring .health) .health p ≡ 0) × (commandsOf (W .state .ring .commands) p ≡ false)
+  pub kinds : (p : Part) → InRing n p → healthOfKind p (W .plant .health .health p) ≡ true
   pub planned : Agree n (W .plant .last) (commands n (W .plant .health))
   pub shown : W .shown ≡ choices n (W .plant .health)
 
@@ -201,8 +201,8 @@ not-commanded n H p l = go (dec (commands n H p))
 
 -- after a transition all is steady
 pub transition-steady : {n : ℕ} (state : RingState) {P Q : PlantState} (h : History) → n ≤ largest → Ready n (state .ring) P
-    → ((p : Part) → InRing n p → healthOfKind p (healthOf (state .ring .health) p) ≡ true)
-    → ((p : Part) → InRing largest p → n < number p → healthOf (state .ring .health) p ≡ 0)
+    → ((p : Part) → InRing n p → healthOfKind p (healthOf (state .ring .health) .health p) ≡ true)
+    → ((p : Part) → InRing largest p → n < number p → healthOf (state .ring .health) .health p ≡ 0)
     → Performed (phasesOf n P) P Q
     → Steady n (switched Q (servedState state) h)
 unfolding servedState reckoned withPlan planned phasesOf
@@ -225,8 +225,8 @@ transition-steady {n} state {P} h small ready kinds above (performed {xs = xs} {
     same-health : performAll ys (performAll xs P) .health ≡ P .health
     same-health = perform-health ys (performAll xs P) ∙ perform-health xs P
 
-    kept : (p : Part) → P .health p ≡ performAll ys (performAll xs P) .health p
-    kept p = ap (λ (K : PartHealth). K p) (sym same-health)
+    kept : (p : Part) → P .health .health p ≡ performAll ys (performAll xs P) .health .health p
+    kept p = ap (λ (K : PartHealth). K .health p) (sym same-health)
 
     wide : (p : Part) → InRing n p → InRing largest p
     wide p r = (r .0, omega (arith, r .1))
@@ -263,17 +263,17 @@ module _ {n : ℕ} {W : World} (s : Steady n W) where
 
   health-inside : healthOutside H (parts largest) ≡ false
   unfolding healthOutside
-  health-inside = any-false (λ p. not (healthOfKind p (H p))) (parts largest) (λ p m. go p (in-or-above p m))
+  health-inside = any-false (λ p. not (healthOfKind p (H .health p))) (parts largest) (λ p m. go p (in-or-above p m))
     where
-      go : (p : Part) → InRing n p ⊎ (InRing largest p × (n < number p)) → not (healthOfKind p (H p)) ≡ false
+      go : (p : Part) → InRing n p ⊎ (InRing largest p × (n < number p)) → not (healthOfKind p (H .health p)) ≡ false
       go p (inl r) = rw (s .health p r, s .kinds p r)
       go p (inr r) = rw (s .above p (r .0) (r .1) .0, fit-of-kind p)
 
   quiet-above : activeAbove n H C ≡ false
   unfolding activeAbove
-  quiet-above = any-false (λ p. ltb n (number p) && (not (fit (H p)) || C p)) (parts largest) (λ p m. go p (in-or-above p m))
+  quiet-above = any-false (λ p. ltb n (number p) && (not (fit (H .health p)) || C p)) (parts largest) (λ p m. go p (in-or-above p m))
     where
-      go : (p : Part) → InRing n p ⊎ (InRing largest p × (n < number p)) → ltb n (number p) && (not (fit (H p)) || C p) ≡ false
+      go : (p : Part) → InRing n p ⊎ (InRing largest p × (n < number p)) → ltb n (number p) && (not (fit (H .health p)) || C p) ≡ false
       go p (inl r) = rw (le-ltb n (number p) (r .1))
       go p (inr r) = rw (s .above p (r .0) (r .1) .0, s .above p (r .0) (r .1) .1, lt-ltb n (number p) (r .1))
 

@@ -199,13 +199,13 @@ unfoldable pub darkThoughFed : ℕ → World → ℕ → Bool
 darkThoughFed n W b = isDark (shownAt W b) && differ (feedNumber (busFeed n (W .plant .health) (W .plant .last) b)) 0
 
 unfoldable pub otherHealth : World → Part → Bool
-otherHealth W p = differ (healthOf (W .state .ring .health) p) (W .plant .health p)
+otherHealth W p = differ (healthOf (W .state .ring .health) .health p) (W .plant .health .health p)
 
 unfoldable pub otherCommand : World → Part → Bool
 otherCommand W p = not (Bool·beq (commandsOf (W .state .ring .commands) p) (W .plant .last p))
 
 unfoldable pub unfitAbove : ℕ → World → Part → Bool
-unfitAbove n W p = ltb n (number p) && differ (healthOf (W .state .ring .health) p) 0
+unfitAbove n W p = ltb n (number p) && differ (healthOf (W .state .ring .health) .health p) 0
 
 unfoldable pub onAbove : ℕ → World → Part → Bool
 onAbove n W p = ltb n (number p) && commandsOf (W .state .ring .commands) p

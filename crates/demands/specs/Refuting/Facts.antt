@@ -63,9 +63,9 @@ abbrev pub breaker2Fit : Report
 breaker2Fit = report (BusBreaker 2) Fit
 
 -- "the plant takes its reports' words in order": the last word for BB2 decides, and BB1 keeps its own
-in-order : (afterWords (breaker2Open ∷ breaker1Closed ∷ breaker2Fit ∷ []) freshPlant .health (BusBreaker 2) ≡ 0)
-    × (afterWords (breaker2Fit ∷ breaker1Closed ∷ breaker2Open ∷ []) freshPlant .health (BusBreaker 2) ≡ 2)
-    × (afterWords (breaker2Fit ∷ breaker1Closed ∷ breaker2Open ∷ []) freshPlant .health (BusBreaker 1) ≡ 3)
+in-order : (afterWords (breaker2Open ∷ breaker1Closed ∷ breaker2Fit ∷ []) freshPlant .health .health (BusBreaker 2) ≡ 0)
+    × (afterWords (breaker2Fit ∷ breaker1Closed ∷ breaker2Open ∷ []) freshPlant .health .health (BusBreaker 2) ≡ 2)
+    × (afterWords (breaker2Fit ∷ breaker1Closed ∷ breaker2Open ∷ []) freshPlant .health .health (BusBreaker 1) ≡ 3)
 unfolding afterWords afterWord samePart
 in-order = (refl, refl, refl)
 

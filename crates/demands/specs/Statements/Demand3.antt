@@ -67,7 +67,7 @@ effect StuckClosed = 3
 
 -- "A served step first does to its part what the word says."
 unfoldable pub afterWord : Report → PlantState → PlantState
-afterWord r P = record { health = λ p. cond (samePart p (r .part)) (effect (r .word)) (P .health p); last = P .last }
+afterWord r P = record { health = λ p. cond (samePart p (r .part)) (effect (r .word)) (P .health .health p); last = P .last }
 
 -- "the plant takes its reports' words in order before the first stroke": the words of a call, one after the other
 unfoldable pub afterWords : List Report → PlantState → PlantState
@@ -325,9 +325,9 @@ pub record BusShown (n : ℕ) (W : World) (b : ℕ) : Type 0 where
 -- "and the record gives the plant's health and orders"; parts above n are fit and off or open
 pub record RecordGiven (n : ℕ) (W : World) : Type 0 where
   pub size : W .state .ring .n ≡ n
-  pub health : (p : Part) → InRing n p → healthOf (W .state .ring .health) p ≡ W .plant .health p
+  pub health : (p : Part) → InRing n p → healthOf (W .state .ring .health) .health p ≡ W .plant .health .health p
   pub standing : (p : Part) → InRing n p → commandsOf (W .state .ring .commands) p ≡ W .plant .last p
-  pub health-above : (p : Part) → InRing largest p → n < number p → healthOf (W .state .ring .health) p ≡ 0
+  pub health-above : (p : Part) → InRing largest p → n < number p → healthOf (W .state .ring .health) .health p ≡ 0
   pub commands-above : (p : Part) → InRing largest p → n < number p → commandsOf (W .state .ring .commands) p ≡ false
 
 -- what the plant says of a booking's bus

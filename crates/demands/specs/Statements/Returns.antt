@@ -31,8 +31,8 @@ pub record ByOperationAlone (n : ℕ) (P : PlantState) : Type 0 where
   -- a breaker that is closed meanwhile was closed before the words, or was ordered closed by its own operation, unless it stuck closed
   pub closes : (rs : List Report) (os : List Operation) (p : Part) → InRing n p
       → anyOf (λ r. samePart p (r .part) && isStuckClosed (r .word)) rs ≡ false
-      → closed (meanwhile rs os P .health p) (meanwhile rs os P .last p) ≡ true
-      → (closed (P .health p) (P .last p) ≡ true) ⊎ (operation true p ∈ os)
+      → closed (meanwhile rs os P .health .health p) (meanwhile rs os P .last p) ≡ true
+      → (closed (P .health .health p) (P .last p) ≡ true) ⊎ (operation true p ∈ os)
   -- before the first operation generators that return change nothing for any bus
   pub fed-as-before : (rs : List Report) → Returns rs → (b : ℕ) → b < n
       → busFeed n (afterWords rs P .health) (afterWords rs P .last) b ≡ busFeed n (P .health) (P .last) b

@@ -250,18 +250,18 @@ not-closed StuckOff e c = contra c refl
 not-closed StuckOpen e c = contra c refl
 not-closed StuckClosed e c = contra refl e
 
-word-none : (r : Report) (P : PlantState) (p : Part) → isStuckClosed (r .word) ≡ false → stuckClosed (afterWord r P .health p) ≡ true
-    → stuckClosed (P .health p) ≡ true
+word-none : (r : Report) (P : PlantState) (p : Part) → isStuckClosed (r .word) ≡ false → stuckClosed (afterWord r P .health .health p) ≡ true
+    → stuckClosed (P .health .health p) ≡ true
 unfolding afterWord
 word-none r P p e = go (samePart p (r .part))
   where
-    go : (t : Bool) → stuckClosed (cond t (effect (r .word)) (P .health p)) ≡ true → stuckClosed (P .health p) ≡ true
+    go : (t : Bool) → stuckClosed (cond t (effect (r .word)) (P .health .health p)) ≡ true → stuckClosed (P .health .health p) ≡ true
     go true c = absurd (not-closed (r .word) e c)
     go false c = c
 
 words-none : (rs : List Report) (P : PlantState) (p : Part) → anyOf (λ r. isStuckClosed (r .word)) rs ≡ false
-    → stuckClosed (afterWords rs P .health p) ≡ true
-    → stuckClosed (P .health p) ≡ true
+    → stuckClosed (afterWords rs P .health .health p) ≡ true
+    → stuckClosed (P .health .health p) ≡ true
 unfolding afterWords anyOf
 words-none [] P p e c = c
 words-none (r ∷ rs) P p e c =

@@ -229,10 +229,10 @@ unfolding ringFor healthPlaces commandPlaces
 ring-ext n H K small same = λ i. record {
   n = n;
   health = record {
-    generators = places-ext (λ j. H (generator j)) (λ j. K (generator j)) (λ j h. same (generator j) (at-index largest j h)) i;
+    generators = places-ext (λ j. H .health (generator j)) (λ j. K .health (generator j)) (λ j h. same (generator j) (at-index largest j h)) i;
     «generator_breakers» =
-        places-ext (λ j. H (generatorBreaker j)) (λ j. K (generatorBreaker j)) (λ j h. same (generatorBreaker j) (at-index largest j h)) i;
-    «bus_breakers» = places-ext (λ j. H (busBreaker j)) (λ j. K (busBreaker j)) (λ j h. same (busBreaker j) (at-index largest j h)) i;
+        places-ext (λ j. H .health (generatorBreaker j)) (λ j. K .health (generatorBreaker j)) (λ j h. same (generatorBreaker j) (at-index largest j h)) i;
+    «bus_breakers» = places-ext (λ j. H .health (busBreaker j)) (λ j. K .health (busBreaker j)) (λ j h. same (busBreaker j) (at-index largest j h)) i;
   };
   commands = commandPlaces (λ p. commands-ext n H K inside p i);
 }
@@ -242,18 +242,18 @@ ring-ext n H K small same = λ i. record {
 
 -- the arrays of a record are those of a health that it holds
 pub health-is : (state : RingState) → Arrays state → (H : PartHealth)
-    → ((p : Part) → InRing largest p → healthOf (state .ring .health) p ≡ H p)
+    → ((p : Part) → InRing largest p → healthOf (state .ring .health) .health p ≡ H .health p)
     → state .ring .health ≡ healthPlaces H
 unfolding healthPlaces healthOf
 health-is state arrays H same = λ i. record {
   generators =
-      is-places (λ j. H (generator j)) (state .ring .health .generators) 0 (arrays .generators)
+      is-places (λ j. H .health (generator j)) (state .ring .health .generators) 0 (arrays .generators)
       (λ j l. same (generator j) (at-index largest j l)) i;
   «generator_breakers» =
-      is-places (λ j. H (generatorBreaker j)) (state .ring .health .«generator_breakers») 0 (arrays .generator-breakers)
+      is-places (λ j. H .health (generatorBreaker j)) (state .ring .health .«generator_breakers») 0 (arrays .generator-breakers)
       (λ j l. same (generatorBreaker j) (at-index largest j l)) i;
   «bus_breakers» =
-      is-places (λ j. H (busBreaker j)) (state .ring .health .«bus_breakers») 0 (arrays .bus-breakers)
+      is-places (λ j. H .health (busBreaker j)) (state .ring .health .«bus_breakers») 0 (arrays .bus-breakers)
       (λ j l. same (busBreaker j) (at-index largest j l)) i;
 }
 
@@ -328,13 +328,13 @@ start-made n big small =
     (started n fullRoom big small begun)
 
 module _ (n : ℕ) (big : smallest ≤ n) (small : n ≤ largest) (H : PartHealth)
-    (kinds : (p : Part) → InRing n p → healthOfKind p (H p) ≡ true) where
+    (kinds : (p : Part) → InRing n p → healthOfKind p (H .health p) ≡ true) where
   -- the health H of the parts ps, all others fit
   partial : List Part → PartHealth
-  partial ps q = cond (anyOf (samePart q) ps) (H q) 0
+  partial ps q = cond (anyOf (samePart q) ps) (H .health q) 0
 
   -- one report more
-  add : (p : Part) (ps : List Part) (w : Word) → wordNumber w ≡ H p
+  add : (p : Part) (ps : List Part) (w : Word) → wordNumber w ≡ H .health p
       → withPlan (told (ringFor n (partial ps)) (record { part = p; word = w })) ≡ ringFor n (partial (p ∷ ps))
   unfolding withPlan told planned ringFor reported partial anyOf
   add p ps w e =
@@ -343,12 +343,12 @@ module _ (n : ℕ) (big : smallest ≤ n) (small : n ≤ largest) (H : PartHealt
       (λ q i. go q i (dec (samePart q p))))
     where
       go : (q : Part) → InRing largest q → (samePart q p ≡ true) ⊎ (samePart q p ≡ false)
-          → cond (samePart q p) (wordNumber w) (healthOf (healthPlaces (partial ps)) q) ≡ cond (samePart q p || anyOf (samePart q) ps)
-          (H q) 0
+          → cond (samePart q p) (wordNumber w) (healthOf (healthPlaces (partial ps)) .health q) ≡ cond (samePart q p || anyOf (samePart q) ps)
+          (H .health q) 0
       go q i (inl t) = rw t (e ∙ ap H (sym (same-eq q p t)))
       go q i (inr t) = rw t (health-places (partial ps) q i)
 
-  step-made : (p : Part) (ps : List Part) → InRing n p → (w : Word) → wordNumber w ≡ H p → wordRefusal p w ≡ 0
+  step-made : (p : Part) (ps : List Part) → InRing n p → (w : Word) → wordNumber w ≡ H .health p → wordRefusal p w ≡ 0
       → Made (stateFor n (partial ps) [])
       → Made (stateFor n (partial (p ∷ ps)) [])
   unfolding Reached ringFor stateFor reckoned withFigures
@@ -369,7 +369,7 @@ module _ (n : ℕ) (big : smallest ≤ n) (small : n ≤ largest) (H : PartHealt
   makes [] all = rw (ring-ext n allFit (partial []) small (λ q i. refl)) at (start-made n big small)
   makes (p ∷ ps) all =
       let i = all p (List·Memᴰ·head refl) in
-      let w = word-for p (H p) (kinds p i) in
+      let w = word-for p (H .health p) (kinds p i) in
       step-made p ps i (w .0) (w .1) (w .2) (makes ps (λ q m. all q (List·Memᴰ·tail m)))
 
 -- ---- .. and by their bookings
@@ -483,18 +483,18 @@ module _ (ring : Ring) (good : badRing ring ≡ false) where
       let c = or-none (activeAbove N H C) _ (b .1) in
       (a .0, b .0, c .0, or-none (unplanned N H C) false (c .1) .0)
 
-  of-kind : (p : Part) → InRing N p → healthOfKind p (H p) ≡ true
+  of-kind : (p : Part) → InRing N p → healthOfKind p (H .health p) ≡ true
   unfolding healthOutside
   of-kind p i =
-      not-false (healthOfKind p (H p))
-      (any-none (λ q. not (healthOfKind q (H q))) (conditions .1) (parts-in largest p (i .0, omega (arith, i .1, good-size ring good .1))))
+      not-false (healthOfKind p (H .health p))
+      (any-none (λ q. not (healthOfKind q (H .health q))) (conditions .1) (parts-in largest p (i .0, omega (arith, i .1, good-size ring good .1))))
 
-  above-fit : (p : Part) → InRing largest p → N < number p → H p ≡ 0
+  above-fit : (p : Part) → InRing largest p → N < number p → H .health p ≡ 0
   unfolding activeAbove
   above-fit p i l =
-      let t = any-none (λ q. ltb N (number q) && (not (fit (H q)) || C q)) (conditions .2) (parts-in largest p i) in
-      let u : not (fit (H p)) || C p ≡ false = rw (lt-ltb N (number p) l) at t in
-      eqb-true (H p) 0 (not-false (fit (H p)) (or-none (not (fit (H p))) (C p) u .0))
+      let t = any-none (λ q. ltb N (number q) && (not (fit (H .health q)) || C q)) (conditions .2) (parts-in largest p i) in
+      let u : not (fit (H .health p)) || C p ≡ false = rw (lt-ltb N (number p) l) at t in
+      eqb-true (H .health p) 0 (not-false (fit (H .health p)) (or-none (not (fit (H .health p))) (C p) u .0))
 
   pub as-planned : (p : Part) → InRing largest p → C p ≡ commands N H p
   unfolding unplanned
@@ -676,7 +676,7 @@ module _ (state : RingState) (arrays : Arrays state) (good : badRecord state ≡
       partial (ring .n) ((good-size ring whole) .0) ((good-size ring whole) .1) (healthOf (ring .health)) (of-kind ring whole)
       (parts (ring .n))
 
-  same-health : (p : Part) → InRing largest p → (healthOf (ring .health)) p ≡ K p
+  same-health : (p : Part) → InRing largest p → (healthOf (ring .health)) p ≡ K .health p
   unfolding partial
   same-health p i = go (dec-lt (ring .n) (number p)) (dec (anyOf (samePart p) (parts (ring .n))))
     where

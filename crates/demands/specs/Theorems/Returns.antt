@@ -141,19 +141,19 @@ module _ {c : Controller} (meets : Demand3 c) (n : ℕ) (buffer : List ℕ) (beg
 -- ---- what returns do before the first stroke
 
 -- a fit part stays fit
-fit-stays : {rs : List Report} → Returns rs → (P : PlantState) (p : Part) → P .health p ≡ 0 → afterWords rs P .health p ≡ 0
+fit-stays : {rs : List Report} → Returns rs → (P : PlantState) (p : Part) → P .health .health p ≡ 0 → afterWords rs P .health .health p ≡ 0
 unfolding afterWords afterWord
 fit-stays none-returns P p e = e
 fit-stays (returns k r) P p e = fit-stays r (afterWord (record { part = Generator k; word = Fit }) P) p (go (samePart p (Generator k)))
   where
-    go : (t : Bool) → cond t 0 (P .health p) ≡ 0
+    go : (t : Bool) → cond t 0 (P .health .health p) ≡ 0
     go true = refl
     go false = e
 
 -- a breaker is as it was
 breakers-stay : {rs : List Report} → Returns rs → (P : PlantState) (i : ℕ)
-    → (afterWords rs P .health (generatorBreaker i) ≡ P .health (generatorBreaker i))
-    × (afterWords rs P .health (busBreaker i) ≡ P .health (busBreaker i))
+    → (afterWords rs P .health .health (generatorBreaker i) ≡ P .health .health (generatorBreaker i))
+    × (afterWords rs P .health .health (busBreaker i) ≡ P .health .health (busBreaker i))
 unfolding afterWords afterWord samePart
 breakers-stay none-returns P i = (refl, refl)
 breakers-stay (returns k r) P i = breakers-stay r (afterWord (record { part = Generator k; word = Fit }) P) i
@@ -181,7 +181,7 @@ ordered-by rs os P p e = rw (words-last rs P) at (performed-by os (afterWords rs
 
 -- a part that no word has stuck closed is stuck closed only if it was before
 not-stuck : (rs : List Report) (P : PlantState) (p : Part) → anyOf (λ r. samePart p (r .part) && isStuckClosed (r .word)) rs ≡ false
-    → stuckClosed (afterWords rs P .health p) ≡ true → stuckClosed (P .health p) ≡ true
+    → stuckClosed (afterWords rs P .health .health p) ≡ true → stuckClosed (P .health .health p) ≡ true
 unfolding afterWords afterWord anyOf
 not-stuck [] P p e c = c
 not-stuck (r ∷ rs) P p e c =
@@ -189,8 +189,8 @@ not-stuck (r ∷ rs) P p e c =
     go (dec (samePart p (r .part))) (t .0) (not-stuck rs (afterWord r P) p (t .1) c)
   where
     go : (samePart p (r .part) ≡ true) ⊎ (samePart p (r .part) ≡ false) → samePart p (r .part) && isStuckClosed (r .word) ≡ false
-        → stuckClosed (cond (samePart p (r .part)) (effect (r .word)) (P .health p)) ≡ true
-        → stuckClosed (P .health p) ≡ true
+        → stuckClosed (cond (samePart p (r .part)) (effect (r .word)) (P .health .health p)) ≡ true
+        → stuckClosed (P .health .health p) ≡ true
     go (inl s) f d = absurd (not-closed (r .word) (rw s at f) (rw s at d))
     go (inr s) f d = rw s at d
 
@@ -201,9 +201,9 @@ module _ (n : ℕ) (P : PlantState) (planned : Agree n (P .last) (commands n (P 
   fits g hg e = on-fit n (P .health) g (sym (planned (generator g) (at-index n g hg)) ∙ e)
 
   -- no part that is ordered on or closed is stuck open
-  free : (p : Part) → InRing n p → P .last p ≡ true → stuckOpen (P .health p) ≡ false
+  free : (p : Part) → InRing n p → P .last p ≡ true → stuckOpen (P .health .health p) ≡ false
   free (Generator zero) i e = absurd (omega (arith, i .0))
-  free (Generator (suc g)) i e = rw (eqb-true (P .health (generator g)) 0 (on-fit n (P .health) g (sym (planned (generator g) i) ∙ e)))
+  free (Generator (suc g)) i e = rw (eqb-true (P .health .health (generator g)) 0 (on-fit n (P .health) g (sym (planned (generator g) i) ∙ e)))
   free (GeneratorBreaker zero) i e = absurd (omega (arith, i .0))
   free (GeneratorBreaker (suc g)) i e = breaker-free n (P .health) g (sym (planned (generatorBreaker g) i) ∙ e)
   free (BusBreaker zero) i e = absurd (omega (arith, i .0))
@@ -221,18 +221,18 @@ module _ (n : ℕ) (P : PlantState) (planned : Agree n (P .last) (commands n (P 
 
   closed-by-stroke : (rs : List Report) (os : List Operation) (p : Part) → InRing n p
       → anyOf (λ r. samePart p (r .part) && isStuckClosed (r .word)) rs ≡ false
-      → closed (meanwhile rs os P .health p) (meanwhile rs os P .last p) ≡ true
-      → (closed (P .health p) (P .last p) ≡ true) ⊎ (operation true p ∈ os)
-  closed-by-stroke rs os p i none e = go (closed-case (meanwhile rs os P .health p) (meanwhile rs os P .last p) e)
+      → closed (meanwhile rs os P .health .health p) (meanwhile rs os P .last p) ≡ true
+      → (closed (P .health .health p) (P .last p) ≡ true) ⊎ (operation true p ∈ os)
+  closed-by-stroke rs os p i none e = go (closed-case (meanwhile rs os P .health .health p) (meanwhile rs os P .last p) e)
     where
-      by : (P .last p ≡ true) ⊎ (operation true p ∈ os) → (closed (P .health p) (P .last p) ≡ true) ⊎ (operation true p ∈ os)
-      by (inl c) = inl (closed-by (P .health p) (P .last p) (free p i c) c)
+      by : (P .last p ≡ true) ⊎ (operation true p ∈ os) → (closed (P .health .health p) (P .last p) ≡ true) ⊎ (operation true p ∈ os)
+      by (inl c) = inl (closed-by (P .health .health p) (P .last p) (free p i c) c)
       by (inr m) = inr m
 
-      go : (stuckClosed (meanwhile rs os P .health p) ≡ true)
-          ⊎ ((stuckOpen (meanwhile rs os P .health p) ≡ false) × (meanwhile rs os P .last p ≡ true))
-          → (closed (P .health p) (P .last p) ≡ true) ⊎ (operation true p ∈ os)
-      go (inl t) = inl (or-left (stuckClosed (P .health p)) _ (not-stuck rs P p none (rw (perform-health os (afterWords rs P)) at t)))
+      go : (stuckClosed (meanwhile rs os P .health .health p) ≡ true)
+          ⊎ ((stuckOpen (meanwhile rs os P .health .health p) ≡ false) × (meanwhile rs os P .last p ≡ true))
+          → (closed (P .health .health p) (P .last p) ≡ true) ⊎ (operation true p ∈ os)
+      go (inl t) = inl (or-left (stuckClosed (P .health .health p)) _ (not-stuck rs P p none (rw (perform-health os (afterWords rs P)) at t)))
       go (inr t) = by (ordered-by rs os P p (t .1))
 
   no-more : {rs : List Report} → Returns rs → Less n (afterWords rs P .health) (afterWords rs P .last) (P .health) (P .last)
@@ -276,19 +276,19 @@ module _ (state : RingState) (arrays : Arrays state) (good : badRecord state ≡
   as-it-was = record { outcome = Served; state = state; choices = calledFor ring }
 
   -- a ring that is told what it holds is the same
-  told-same : (r : Report) → wordNumber (r .word) ≡ H (r .part) → told ring r ≡ ring
+  told-same : (r : Report) → wordNumber (r .word) ≡ H .health (r .part) → told ring r ≡ ring
   unfolding told reported
   told-same r e = λ i. record { n = ring .n; health = sym same i; commands = ring .commands }
     where
       at : (p : Part) → (samePart p (r .part) ≡ true) ⊎ (samePart p (r .part) ≡ false)
-          → H p ≡ cond (samePart p (r .part)) (wordNumber (r .word)) (H p)
+          → H .health p ≡ cond (samePart p (r .part)) (wordNumber (r .word)) (H .health p)
       at p (inl t) = rw t (ap H (same-eq p (r .part) t) ∙ sym e)
       at p (inr t) = rw t
 
       same : ring .health ≡ healthPlaces (reported H r)
       same = health-is state arrays (reported H r) (λ p i. at p (dec (samePart p (r .part))))
 
-  told-all-same : (rs : List Report) → ((r : Report) → r ∈ rs → wordNumber (r .word) ≡ H (r .part)) → toldAll ring rs ≡ ring
+  told-all-same : (rs : List Report) → ((r : Report) → r ∈ rs → wordNumber (r .word) ≡ H .health (r .part)) → toldAll ring rs ≡ ring
   unfolding toldAll
   told-all-same [] same = refl
   told-all-same (r ∷ rs) same =
@@ -296,7 +296,7 @@ module _ (state : RingState) (arrays : Arrays state) (good : badRecord state ≡
 
   -- a step or a scan whose words repeat the present health: the very record, the choices it calls for, two empty waves
   pub words-repeated : (call : Call) → count call ≤ 64 → AllGood (ring .n) (words call)
-      → ((r : Report) → r ∈ words call → wordNumber (r .word) ≡ H (r .part)) → 2 ≤ length (lent call)
+      → ((r : Report) → r ∈ words call → wordNumber (r .word) ≡ H .health (r .part)) → 2 ≤ length (lent call)
       → replyTo controller state call ≡ record { answer = as-it-was; buffer = written (0 ∷ 0 ∷ []) (lent call) }
   unfolding servedState toldState
   words-repeated call few goods same enough =
@@ -311,7 +311,7 @@ module _ (state : RingState) (arrays : Arrays state) (good : badRecord state ≡
       call-served state call yes ∙ rw (told-all-same (words call) same, still ring right, plan-kept state good arrays)
 
   -- .. and so word 0 for a fit generator
-  pub fit-already : (k : ℕ) → InRing (ring .n) (Generator k) → H (Generator k) ≡ 0 → (buffer : List ℕ) → 2 ≤ length buffer
+  pub fit-already : (k : ℕ) → InRing (ring .n) (Generator k) → H .health (Generator k) ≡ 0 → (buffer : List ℕ) → 2 ≤ length buffer
       → stateStep state (record { part = Generator k; word = Fit }) buffer
       ≡ record { answer = as-it-was; buffer = written (0 ∷ 0 ∷ []) buffer }
   unfolding wordRefusal
@@ -331,7 +331,7 @@ module _ (state : RingState) (arrays : Arrays state) (good : badRecord state ≡
       (ap (λ x. record { outcome = Served; state = x; choices = calledFor ring }) (plan-kept state good arrays))
 
   -- a fit part fails and returns: the very record, and the choices that it calls for
-  module _ (p : Part) (w : Word) (fit-before : H p ≡ 0) where
+  module _ (p : Part) (w : Word) (fit-before : H .health p ≡ 0) where
     abbrev fails : Report
     fails = record { part = p; word = w }
 
@@ -347,7 +347,7 @@ module _ (state : RingState) (arrays : Arrays state) (good : badRecord state ≡
     health-back = health-is state arrays _ (λ q i. at q i (dec (samePart q p)))
       where
         at : (q : Part) → InRing largest q → (samePart q p ≡ true) ⊎ (samePart q p ≡ false)
-            → H q ≡ cond (samePart q p) 0 (healthOf (healthPlaces (reported H fails)) q)
+            → H .health q ≡ cond (samePart q p) 0 (healthOf (healthPlaces (reported H fails)) .health q)
         at q i (inl t) = rw t (ap H (same-eq q p t) ∙ fit-before)
         at q i (inr t) = rw (t, health-places (reported H fails) q i, t)
 

@@ -32,7 +32,7 @@ returns-3 c =
     let a = c .before .before .before .args in
     rw (in-third (a .n) (a .p) (c .before .if2 .left))
     (bus-breaker-matters (a .n) (healthOf (a .t2)) (a .p - (a .n + a .n))
-    (breaker-test (healthOf (a .t2) (busBreaker (a .p - (a .n + a .n)))) (λ e t. omega (arith, facts, t)) (λ e t. omega (arith, facts, t))))
+    (breaker-test (healthOf (a .t2) .health (busBreaker (a .p - (a .n + a .n)))) (λ e t. omega (arith, facts, t)) (λ e t. omega (arith, facts, t))))
 
 pub matters-spec : {M : Type 1} → statement M
 matters-spec =

@@ -16,7 +16,7 @@ joined c =
     let H = healthOf (x .t2) in
     let C = commandsOf (x .t3) in
     let runs : running H C (x .g) ≡ true = sym (d .before .is-running .ensures) ∙ d .if1 .taken in
-    let shut : closed (H (generatorBreaker (x .g))) (C (generatorBreaker (x .g))) ≡ true =
+    let shut : closed (H .health (generatorBreaker (x .g))) (C (generatorBreaker (x .g))) ≡ true =
     sym (c .before .before .is-closed .ensures) ∙ c .before .if2 .taken in
     rw (runs, shut) (c .connected .ensures)
 
@@ -29,7 +29,7 @@ parted c =
     let H = healthOf (x .t2) in
     let C = commandsOf (x .t3) in
     let runs : running H C (x .g) ≡ true = sym (d .before .is-running .ensures) ∙ d .if1 .taken in
-    let open′ : closed (H (generatorBreaker (x .g))) (C (generatorBreaker (x .g))) ≡ false =
+    let open′ : closed (H .health (generatorBreaker (x .g))) (C (generatorBreaker (x .g))) ≡ false =
     sym (c .before .is-closed .ensures) ∙ c .if2 .left in
     rw (runs, open′, c .if2 .left)
 

@@ -8,10 +8,11 @@ use native.Mathlib.Omega.{arith}
 use lib.ListN.{length, length-append}
 use lib.Seq.{length-take-le}
 use Rattle.model.specs.declared.Part.{Part}
+use Rattle.model.specs.declared.Part.the-variants.{Generator, GeneratorBreaker, BusBreaker}
 use Rattle.model.specs.Lists.{anyOf, _∈_}
 use Rattle.model.specs.Values.{partCode, samePart, wordNumber}
-use Rattle.model.specs.Plant.{PartHealth}
-use Rattle.model.specs.Reports.{reported}
+use Rattle.model.specs.Plant.{PartHealth, generator}
+use Rattle.model.specs.Reports.{healthBy, lockBy, reported}
 use Rattle.model.specs.CutSets.{faultWord, faultReport, withFaults, setBytes, cutSheet}
 use Rattle.model.specs.Laws.Tests.{contra, dec}
 use Rattle.model.specs.Laws.Lists.{all-cons, any-at, any-in, any-false}
@@ -25,22 +26,47 @@ either : (t : Bool) (x : ℕ) → cond t x x ≡ x
 either true x = refl
 either false x = refl
 
+-- a further fault is a word about health
+pub fault-health : (p : Part) (h : ℕ) → healthBy (faultWord p) h ≡ fault p
+fault-health (Generator k) h = refl
+fault-health (GeneratorBreaker k) h = refl
+fault-health (BusBreaker k) h = refl
+
+fault-lock : (p : Part) (l : Bool) → lockBy (faultWord p) l ≡ l
+fault-lock (Generator k) l = refl
+fault-lock (GeneratorBreaker k) l = refl
+fault-lock (BusBreaker k) l = refl
+
 -- a part of the set has its fault's health, any other its own
-pub after-faults : (H : PartHealth) (S : List Part) (p : Part) → withFaults H S p ≡ cond (anyOf (samePart p) S) (fault p) (H p)
+pub after-faults : (H : PartHealth) (S : List Part) (p : Part)
+    → withFaults H S .health p ≡ cond (anyOf (samePart p) S) (fault p) (H .health p)
 unfolding withFaults anyOf reported
 after-faults H [] p = refl
 after-faults H (q ∷ S) p = after-faults (reported H (faultReport q)) S p ∙ go (dec (samePart p q))
   where
     go : (samePart p q ≡ true) ⊎ (samePart p q ≡ false)
-        → cond (anyOf (samePart p) S) (fault p) (reported H (faultReport q) p) ≡ cond (samePart p q || anyOf (samePart p) S) (fault p) (H p)
-    go (inl e) = let z : fault q ≡ fault p = ap fault (sym (same-eq p q e)) in rw (e, z) (either (anyOf (samePart p) S) (fault p))
+        → cond (anyOf (samePart p) S) (fault p) (reported H (faultReport q) .health p)
+        ≡ cond (samePart p q || anyOf (samePart p) S) (fault p) (H .health p)
+    go (inl e) =
+        let z : healthBy (faultWord q) (H .health p) ≡ fault p = fault-health q (H .health p) ∙ ap fault (sym (same-eq p q e)) in
+        rw (e, z) (either (anyOf (samePart p) S) (fault p))
     go (inr e) = rw e
 
+-- further faults alter no lock
+pub faults-locked : (H : PartHealth) (S : List Part) (g : ℕ) → withFaults H S .locked g ≡ H .locked g
+unfolding withFaults reported
+faults-locked H [] g = refl
+faults-locked H (q ∷ S) g = faults-locked (reported H (faultReport q)) S g ∙ go (samePart (generator g) q)
+  where
+    go : (t : Bool) → cond t (lockBy (faultWord q) (H .locked g)) (H .locked g) ≡ H .locked g
+    go true = fault-lock q (H .locked g)
+    go false = refl
+
 module _ (H : PartHealth) (S : List Part) (p : Part) where
-  pub failed : p ∈ S → withFaults H S p ≡ fault p
+  pub failed : p ∈ S → withFaults H S .health p ≡ fault p
   failed m = after-faults H S p ∙ rw (any-in (samePart p) m (same-refl p))
 
-  pub kept : (p ∈ S → ⊥) → withFaults H S p ≡ H p
+  pub kept : (p ∈ S → ⊥) → withFaults H S .health p ≡ H .health p
   kept out = after-faults H S p ∙ rw (any-false (samePart p) S (λ q m. go q m (dec (samePart p q))))
     where
       go : (q : Part) → q ∈ S → (samePart p q ≡ true) ⊎ (samePart p q ≡ false) → samePart p q ≡ false

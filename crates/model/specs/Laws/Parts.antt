@@ -229,11 +229,16 @@ at-places f d zero l h g e = absurd (omega arith)
 at-places f d (suc i) l h g e = places-at f i d (omega arith) ∙ sym (e i)
 
 -- the arrays hold what they were made of
-pub health-places : (H : PartHealth) (p : Part) → InRing largest p → healthOf (healthPlaces H) p ≡ H p
+pub health-places : (H : PartHealth) (p : Part) → InRing largest p → healthOf (healthPlaces H) .health p ≡ H .health p
 unfolding healthOf healthPlaces
-health-places H (Generator k) h = at-places (λ i. H (generator i)) 0 k (h .0) (h .1) (λ j. H (Generator j)) (λ i. refl)
-health-places H (GeneratorBreaker k) h = at-places (λ i. H (generatorBreaker i)) 0 k (h .0) (h .1) (λ j. H (GeneratorBreaker j)) (λ i. refl)
-health-places H (BusBreaker k) h = at-places (λ i. H (busBreaker i)) 0 k (h .0) (h .1) (λ j. H (BusBreaker j)) (λ i. refl)
+health-places H (Generator k) h = at-places (λ i. H .health (generator i)) 0 k (h .0) (h .1) (λ j. H .health (Generator j)) (λ i. refl)
+health-places H (GeneratorBreaker k) h =
+    at-places (λ i. H .health (generatorBreaker i)) 0 k (h .0) (h .1) (λ j. H .health (GeneratorBreaker j)) (λ i. refl)
+health-places H (BusBreaker k) h = at-places (λ i. H .health (busBreaker i)) 0 k (h .0) (h .1) (λ j. H .health (BusBreaker j)) (λ i. refl)
+
+pub lock-places : (H : PartHealth) (g : ℕ) → g < largest → healthOf (healthPlaces H) .locked g ≡ H .locked g
+unfolding healthOf healthPlaces
+lock-places H g h = places-at (H .locked) g false h
 
 pub command-places : (C : PartCommands) (p : Part) → InRing largest p → commandsOf (commandPlaces C) p ≡ C p
 unfolding commandsOf commandPlaces
@@ -247,6 +252,7 @@ pub record Sized (h : Health) : Type 0 where
   pub generators : length (h .generators) ≡ largest
   pub generator-breakers : length (h .«generator_breakers») ≡ largest
   pub bus-breakers : length (h .«bus_breakers») ≡ largest
+  pub locked : length (h .locked) ≡ largest
 
 -- the arrays are what they hold
 pub health-held : (h : Health) → Sized h → h ≡ healthPlaces (healthOf h)
@@ -255,13 +261,14 @@ health-held h s = λ i. record {
   generators = places-of (h .generators) 0 (s .generators) i;
   «generator_breakers» = places-of (h .«generator_breakers») 0 (s .generator-breakers) i;
   «bus_breakers» = places-of (h .«bus_breakers») 0 (s .bus-breakers) i;
+  locked = places-of (h .locked) false (s .locked) i;
 }
 
 pub places-held : (H : PartHealth) → healthPlaces (healthOf (healthPlaces H)) ≡ healthPlaces H
 unfolding healthPlaces
 places-held H =
     sym (health-held (healthPlaces H)
-    (record { generators = places-length _; generator-breakers = places-length _; bus-breakers = places-length _ }))
+    (record { generators = places-length _; generator-breakers = places-length _; bus-breakers = places-length _; locked = places-length _ }))
 
 -- ---- one part of a health's arrays
 
@@ -273,6 +280,9 @@ arrayOf h (BusBreaker k) = h .«bus_breakers»
 
 -- the health with another array for a part's kind
 abbrev pub withArray : Health → Part → List ℕ → Health
-withArray h (Generator k) l = record { generators = l; «generator_breakers» = h .«generator_breakers»; «bus_breakers» = h .«bus_breakers» }
-withArray h (GeneratorBreaker k) l = record { generators = h .generators; «generator_breakers» = l; «bus_breakers» = h .«bus_breakers» }
-withArray h (BusBreaker k) l = record { generators = h .generators; «generator_breakers» = h .«generator_breakers»; «bus_breakers» = l }
+withArray h (Generator k) l =
+    record { generators = l; «generator_breakers» = h .«generator_breakers»; «bus_breakers» = h .«bus_breakers»; locked = h .locked }
+withArray h (GeneratorBreaker k) l =
+    record { generators = h .generators; «generator_breakers» = l; «bus_breakers» = h .«bus_breakers»; locked = h .locked }
+withArray h (BusBreaker k) l =
+    record { generators = h .generators; «generator_breakers» = h .«generator_breakers»; «bus_breakers» = l; locked = h .locked }

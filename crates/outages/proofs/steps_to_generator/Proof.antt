@@ -34,7 +34,7 @@ unfolding healthOf
 returns c =
     let d = c .before .before in
     let q = d .before .before in
-    let e : healthOf (q .before .args .t2) (busBreaker (d .breaker-beside .result)) ≡ 2 = omega (arith, c .if1 .taken) in
+    let e : healthOf (q .before .args .t2) .health (busBreaker (d .breaker-beside .result)) ≡ 2 = omega (arith, c .if1 .taken) in
     walked-open _ _ _ _ (q .before .pre .0) _ _ (q .loop .inv .2) (rw (d .breaker-beside .ensures) at e)
 
 -- the bus behind it
@@ -51,11 +51,11 @@ in-array d = omega (arith, behind-lt d, d .before .before .before .before .befor
 clear : (d : tie.Else1 Inv-loop μ-loop) →
     let q = d .before .before .before .before in
     let a = q .before .args in
-    healthOf (a .t2) (busBreaker (breakerBeside (a .n) (a .rising) (q .loop .k))) ≢ 2
+    healthOf (a .t2) .health (busBreaker (breakerBeside (a .n) (a .rising) (q .loop .k))) ≢ 2
 unfolding healthOf
 clear d =
     let a = d .before .before .before .before .before .args in
-    let e : healthOf (a .t2) (busBreaker (d .before .before .breaker-beside .result)) ≢ 2 = λ z. omega (arith, d .if1 .left) in
+    let e : healthOf (a .t2) .health (busBreaker (d .before .before .breaker-beside .result)) ≢ 2 = λ z. omega (arith, d .if1 .left) in
     rw (d .before .before .breaker-beside .ensures) at e
 
 -- whether the generator of the bus reached may feed

@@ -12,7 +12,7 @@ use Rattle.model.specs.declared.Part.{Part}
 use Rattle.model.specs.declared.Choice.the-variants.{Dark}
 use Rattle.model.specs.Lists.{anyOf, allOf, _∈_}
 use Rattle.model.specs.Values.{samePart}
-use Rattle.model.specs.Plant.{PartHealth, largest, generator, generatorBreaker, busBreaker, fitGenerator, stuckOpen, stuckClosed, Leads, connected}
+use Rattle.model.specs.Plant.{PartHealth, largest, generator, generatorBreaker, busBreaker, fit, fitGenerator, stuckOpen, stuckClosed, Leads, connected}
 use Rattle.model.specs.Priority.{Path, pathBusBreakers, pathBreakers, pathParts, paths}
 use Rattle.model.specs.Choosing.{onPaths, usable, countedClosed, isolated, permitted, choose, addPath, chosen, plan, choiceOf, choices}
 use Rattle.model.specs.Laws.Tests.{contra, not-of, and-left, and-right, and-intro, or-cases, or-left, or-right, dec}
@@ -51,13 +51,17 @@ on-in n p m q = any-in (λ w. anyOf (samePart p) (pathParts n w)) m (any-in (sam
 
 -- ---- a usable path
 
+-- a fit generator's health is that of a fit part
+pub fit-health : (H : PartHealth) (g : ℕ) → fitGenerator H g ≡ true → H .health (generator g) ≡ 0
+fit-health H g e = eqb-true (H .health (generator g)) 0 (and-left (fit (H .health (generator g))) (not (H .locked g)) e)
+
 pub record Usable (n : ℕ) (H : PartHealth) (w : Path) : Type 0 where
   pub runs : fitGenerator H (w .source) ≡ true
-  pub breaker : stuckOpen (H (generatorBreaker (w .source))) ≡ false
-  pub line : (i : ℕ) → i < n → Uses n w i → stuckOpen (H (busBreaker i)) ≡ false
+  pub breaker : stuckOpen (H .health (generatorBreaker (w .source))) ≡ false
+  pub line : (i : ℕ) → i < n → Uses n w i → stuckOpen (H .health (busBreaker i)) ≡ false
 
 abbrev notOpen : PartHealth → Part → Bool
-notOpen H p = not (stuckOpen (H p))
+notOpen H p = not (stuckOpen (H .health p))
 
 module _ {n : ℕ} {H : PartHealth} {w : Path} (h : Ends n w) where
   pub usable-at : usable n H w ≡ true → Usable n H w
@@ -67,19 +71,19 @@ module _ {n : ℕ} {H : PartHealth} {w : Path} (h : Ends n w) where
       let all = all-at (notOpen H) (pathBreakers n w) (and-right A _ e) in
       record {
         runs = and-left A _ e;
-        breaker = not-true (stuckOpen (H (generatorBreaker (w .source)))) (all (generatorBreaker (w .source)) (List·Memᴰ·head refl));
+        breaker = not-true (stuckOpen (H .health (generatorBreaker (w .source)))) (all (generatorBreaker (w .source)) (List·Memᴰ·head refl));
         line =
-            λ i hi u. not-true (stuckOpen (H (busBreaker i))) (all (busBreaker i) (List·Memᴰ·tail (map-in busBreaker (path-in i h hi u))));
+            λ i hi u. not-true (stuckOpen (H .health (busBreaker i))) (all (busBreaker i) (List·Memᴰ·tail (map-in busBreaker (path-in i h hi u))));
       }
 
   pub usable-of : Usable n H w → usable n H w ≡ true
   unfolding usable
   usable-of u =
       and-intro (fitGenerator H (w .source)) _ (u .runs)
-      (all-of (notOpen H) (pathBreakers n w) (λ p m. not-of (stuckOpen (H p)) (go p (on-path n w p (breakers-on n w p m)))))
+      (all-of (notOpen H) (pathBreakers n w) (λ p m. not-of (stuckOpen (H .health p)) (go p (on-path n w p (breakers-on n w p m)))))
     where
-      go : (p : Part) → OnPath n w p → stuckOpen (H p) ≡ false
-      go p at-generator = rw (eqb-true (H (generator (w .source))) 0 (u .runs))
+      go : (p : Part) → OnPath n w p → stuckOpen (H .health p) ≡ false
+      go p at-generator = rw (fit-health H (w .source) (u .runs))
       go p at-generator-breaker = u .breaker
       go p (at-bus-breaker {i = i} m) = let t = path-at i h m in u .line i (t .0) (t .1)
 
@@ -124,23 +128,23 @@ module _ (n : ℕ) (H : PartHealth) (ws : List Path) (ends : (w : Path) → w �
 
 -- ---- what counts as closed
 
-pub counted-stuck : (n : ℕ) (H : PartHealth) (ws : List Path) (i : ℕ) → stuckClosed (H (busBreaker i)) ≡ true
+pub counted-stuck : (n : ℕ) (H : PartHealth) (ws : List Path) (i : ℕ) → stuckClosed (H .health (busBreaker i)) ≡ true
     → countedClosed n H ws i ≡ true
 unfolding countedClosed
-counted-stuck n H ws i e = or-left (stuckClosed (H (busBreaker i))) _ e
+counted-stuck n H ws i e = or-left (stuckClosed (H .health (busBreaker i))) _ e
 
 pub counted-in : (n : ℕ) (H : PartHealth) {ws : List Path} {w : Path} (i : ℕ) → w ∈ ws → i ∈ pathBusBreakers n w
     → countedClosed n H ws i ≡ true
 unfolding countedClosed
-counted-in n H {w = w} i m u = or-right (stuckClosed (H (busBreaker i))) _ (on-in n (busBreaker i) m (line-on n w u))
+counted-in n H {w = w} i m u = or-right (stuckClosed (H .health (busBreaker i))) _ (on-in n (busBreaker i) m (line-on n w u))
 
 pub counted-at : (n : ℕ) (H : PartHealth) (ws : List Path) (i : ℕ) → countedClosed n H ws i ≡ true
-    → (stuckClosed (H (busBreaker i)) ≡ true) ⊎ ((w : Path) × (w ∈ ws) × (i ∈ pathBusBreakers n w))
+    → (stuckClosed (H .health (busBreaker i)) ≡ true) ⊎ ((w : Path) × (w ∈ ws) × (i ∈ pathBusBreakers n w))
 unfolding countedClosed
-counted-at n H ws i e = go (or-cases (stuckClosed (H (busBreaker i))) _ e)
+counted-at n H ws i e = go (or-cases (stuckClosed (H .health (busBreaker i))) _ e)
   where
-    go : (stuckClosed (H (busBreaker i)) ≡ true) ⊎ (onPaths n ws (busBreaker i) ≡ true)
-        → (stuckClosed (H (busBreaker i)) ≡ true) ⊎ ((w : Path) × (w ∈ ws) × (i ∈ pathBusBreakers n w))
+    go : (stuckClosed (H .health (busBreaker i)) ≡ true) ⊎ (onPaths n ws (busBreaker i) ≡ true)
+        → (stuckClosed (H .health (busBreaker i)) ≡ true) ⊎ ((w : Path) × (w ∈ ws) × (i ∈ pathBusBreakers n w))
     go (inl p) = inl p
     go (inr p) = let t = on-at n ws (busBreaker i) p in inr (t .0, t .1, bus-breaker-on n (t .0) i (t .2))
 
@@ -153,7 +157,7 @@ counted-cons n H ws w i e = go (counted-at n H (w ∷ ws) i e)
     pick v u (inl p) = inr (rw p at u)
     pick v u (inr p) = inl (counted-in n H i p u)
 
-    go : (stuckClosed (H (busBreaker i)) ≡ true) ⊎ ((v : Path) × (v ∈ w ∷ ws) × (i ∈ pathBusBreakers n v))
+    go : (stuckClosed (H .health (busBreaker i)) ≡ true) ⊎ ((v : Path) × (v ∈ w ∷ ws) × (i ∈ pathBusBreakers n v))
         → (countedClosed n H ws i ≡ true) ⊎ (i ∈ pathBusBreakers n w)
     go (inl p) = inl (counted-stuck n H ws i p)
     go (inr t) = pick (t .0) (t .2) (List·Memᴰ·cases-cons (t .1))
@@ -167,12 +171,12 @@ pub record Safe (n : ℕ) (H : PartHealth) (ws : List Path) : Type 0 where
 
 -- a breaker that counts as closed is not stuck open
 pub counted-usable : {n : ℕ} {H : PartHealth} {ws : List Path} → Safe n H ws → (i : ℕ) → countedClosed n H ws i ≡ true
-    → stuckOpen (H (busBreaker i)) ≡ false
+    → stuckOpen (H .health (busBreaker i)) ≡ false
 counted-usable {n} {H} {ws} s i e = go (counted-at n H ws i e)
   where
-    go : (stuckClosed (H (busBreaker i)) ≡ true) ⊎ ((w : Path) × (w ∈ ws) × (i ∈ pathBusBreakers n w))
-        → stuckOpen (H (busBreaker i)) ≡ false
-    go (inl p) = rw (eqb-true (H (busBreaker i)) 3 p)
+    go : (stuckClosed (H .health (busBreaker i)) ≡ true) ⊎ ((w : Path) × (w ∈ ws) × (i ∈ pathBusBreakers n w))
+        → stuckOpen (H .health (busBreaker i)) ≡ false
+    go (inl p) = rw (eqb-true (H .health (busBreaker i)) 3 p)
     go (inr t) = let u = path-at i (s .ends (t .0) (t .1)) (t .2) in s .usables (t .0) (t .1) .line i (u .0) (u .1)
 
 -- a permitted path, as propositions

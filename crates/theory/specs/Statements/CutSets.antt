@@ -57,8 +57,8 @@ pub record Listed (n : ℕ) (H : PartHealth) (b : ℕ) (Ss : List (List Part)) :
 -- two healths that further faults cannot tell apart: the same generators of the ring are fit, and the same breakers stuck open
 pub record Alike (n : ℕ) (H K : PartHealth) : Type 0 where
   pub generators : (g : ℕ) → g < n → fitGenerator H g ≡ fitGenerator K g
-  pub generator-breakers : (g : ℕ) → g < n → stuckOpen (H (generatorBreaker g)) ≡ stuckOpen (K (generatorBreaker g))
-  pub bus-breakers : (i : ℕ) → i < n → stuckOpen (H (busBreaker i)) ≡ stuckOpen (K (busBreaker i))
+  pub generator-breakers : (g : ℕ) → g < n → stuckOpen (H .health (generatorBreaker g)) ≡ stuckOpen (K .health (generatorBreaker g))
+  pub bus-breakers : (i : ℕ) → i < n → stuckOpen (H .health (busBreaker i)) ≡ stuckOpen (K .health (busBreaker i))
 
 -- ---- worked examples, of rings of three
 

@@ -22,7 +22,7 @@ use Rattle.model.specs.Laws.Distinct.{keep-distinct, rising-distinct, distinct-
 use Rattle.model.specs.Laws.Sheet.{sheetOf-length, closingByCode, occurrences-at, occurrences-in, occurrences-once, closing-paths}
 use Rattle.theory.specs.Proofs.Choosing.{on-in}
 use Rattle.theory.specs.Theorems.Feeds.{commanded-at}
-use Rattle.theory.specs.Theorems.Locality.{Agree, plan-ext, commands-ext, commanded-in-ring, opening-ext}
+use Rattle.theory.specs.Theorems.Locality.{Agree, SameHealth, plan-ext, commands-ext, commanded-in-ring, opening-ext}
 
 -- ---- the paths chosen are the buses' paths
 
@@ -142,7 +142,7 @@ module _ (n : ℕ) (H : PartHealth) (old : PartCommands) where
 
 -- ---- parts above n are not read
 
-module _ (n : ℕ) (C D : PartCommands) (H K : PartHealth) (olds : Agree n C D) (same : Agree n H K) where
+module _ (n : ℕ) (C D : PartCommands) (H K : PartHealth) (olds : Agree n C D) (same : SameHealth n H K) where
   pub closing-ext : closing n C (plan n H) ≡ closing n D (plan n K)
   unfolding closing
   closing-ext =

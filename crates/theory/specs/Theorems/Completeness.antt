@@ -256,7 +256,7 @@ module _ (n : ℕ) (H : PartHealth) (ws : List Path) (safe : Safe n H ws) (k : �
             into-D i hi (inl e) = or-left (countedClosed n H ws i) _ e
             into-D i hi (inr m) = f i hi (path-at i (record { source = hh; bus = hk }) m .1)
 
-            fine : (i : ℕ) → i < n → (countedClosed n H ws i ≡ true) ⊎ Uses n p i → stuckOpen (H (busBreaker i)) ≡ false
+            fine : (i : ℕ) → i < n → (countedClosed n H ws i ≡ true) ⊎ Uses n p i → stuckOpen (H .health (busBreaker i)) ≡ false
             fine i hi (inl e) = counted-usable safe i e
             fine i hi (inr e) = u .line i hi (arm .nested v g i hv hg hi dv e)
 

@@ -22,6 +22,7 @@ use Rattle.model.specs.Plant.{
   busBreaker,
   parts,
   fit,
+  fitGenerator,
   stuckOpen,
   InRing,
   next,
@@ -49,7 +50,7 @@ use Rattle.model.specs.CutSets.{
 use Rattle.model.specs.Laws.Tests.{contra, not-of, and-left, and-right, and-intro, iff, dec, dec-eq}
 use Rattle.model.specs.Laws.Lists.{all-cons, any-false, any-none, any-ext, keep-at, keep-in, keep-ext, rising-keep}
 use Rattle.model.specs.Laws.Parts.{parts-in, parts-at, parts-rise}
-use Rattle.model.specs.Laws.CutSets.{failed, kept, in-or-out, common-or-apart}
+use Rattle.model.specs.Laws.CutSets.{failed, kept, faults-locked, in-or-out, common-or-apart}
 use Rattle.theory.specs.Theorems.Connected.{leads-mono}
 use Rattle.theory.specs.Theorems.Completeness.{de-energized-exactly}
 use Rattle.theory.specs.Theorems.Feeds.{reaches-usable, usable-reaches}
@@ -123,7 +124,7 @@ module _ (n : ℕ) (H : PartHealth) (w : Path) (h : Ends n w) (S : List Part) wh
   -- a usable path stays usable while its parts are spared
   spared-usable : Usable n H w → Spared n w S → Usable n (withFaults H S) w
   spared-usable u out = record {
-    runs = rw (kept H S (generator (w .source)) (out _ (source-on n w))) (u .runs);
+    runs = rw (kept H S (generator (w .source)) (out _ (source-on n w)), faults-locked H S (w .source)) (u .runs);
     breaker = rw (kept H S (generatorBreaker (w .source)) (out _ (breaker-on n w))) (u .breaker);
     line = λ i hi l. rw (kept H S (busBreaker i) (out _ (line-on n w (path-in i h hi l)))) (u .line i hi l);
   }
@@ -142,7 +143,7 @@ module _ (n : ℕ) (H : PartHealth) (w : Path) (h : Ends n w) (S : List Part) wh
   usable-before u =
       let out = usable-spared u in
       record {
-        runs = rw (kept H S (generator (w .source)) (out _ (source-on n w))) at (u .runs);
+        runs = rw (kept H S (generator (w .source)) (out _ (source-on n w)), faults-locked H S (w .source)) at (u .runs);
         breaker = rw (kept H S (generatorBreaker (w .source)) (out _ (breaker-on n w))) at (u .breaker);
         line = λ i hi l. rw (kept H S (busBreaker i) (out _ (line-on n w (path-in i h hi l)))) at (u .line i hi l);
       }
@@ -356,16 +357,25 @@ dark-already n H b h e =
 
 module _ (n : ℕ) (H K : PartHealth) (a : Alike n H K) where
   -- what f says of a part, after the same further faults
-  faults-same : (f : ℕ → Bool) (p : Part) (S : List Part) → f (H p) ≡ f (K p) → f (withFaults H S p) ≡ f (withFaults K S p)
+  faults-same : (f : ℕ → Bool) (p : Part) (S : List Part) → f (H .health p) ≡ f (K .health p) → f (withFaults H S .health p) ≡ f (withFaults K S .health p)
   faults-same f p S e = go (in-or-out p S)
     where
-      go : (p ∈ S) ⊎ (p ∈ S → ⊥) → f (withFaults H S p) ≡ f (withFaults K S p)
+      go : (p ∈ S) ⊎ (p ∈ S → ⊥) → f (withFaults H S .health p) ≡ f (withFaults K S .health p)
       go (inl m) = rw (failed H S p m, failed K S p m)
       go (inr m) = rw (kept H S p m, kept K S p m) e
 
+  -- the same generators are fit after them
+  fit-same : (g : ℕ) (S : List Part) → fitGenerator H g ≡ fitGenerator K g → fitGenerator (withFaults H S) g ≡ fitGenerator (withFaults K S) g
+  fit-same g S e = rw (faults-locked H S g, faults-locked K S g) (go (in-or-out (generator g) S))
+    where
+      go : (generator g ∈ S) ⊎ (generator g ∈ S → ⊥)
+          → fit (withFaults H S .health (generator g)) && not (H .locked g) ≡ fit (withFaults K S .health (generator g)) && not (K .locked g)
+      go (inl m) = rw (failed H S (generator g) m, failed K S (generator g) m)
+      go (inr m) = rw (kept H S (generator g) m, kept K S (generator g) m) e
+
   pub alike-after : (S : List Part) → Alike n (withFaults H S) (withFaults K S)
   alike-after S = record {
-    generators = λ g h. faults-same fit (generator g) S (a .generators g h);
+    generators = λ g h. fit-same g S (a .generators g h);
     generator-breakers = λ g h. faults-same stuckOpen (generatorBreaker g) S (a .generator-breakers g h);
     bus-breakers = λ i h. faults-same stuckOpen (busBreaker i) S (a .bus-breakers i h);
   }
@@ -413,7 +423,7 @@ cut-sets-alike n H K a b hb =
     same S = iff (darkens n H b S) (darkens n K b S) (into H K a S) (into K H (turned a) S)
 
 -- so a breaker that sticks closed changes no list
-pub stuck-closed-same : (n : ℕ) (H : PartHealth) (i : ℕ) → stuckOpen (H (busBreaker i)) ≡ false → (b : ℕ) → b < n
+pub stuck-closed-same : (n : ℕ) (H : PartHealth) (i : ℕ) → stuckOpen (H .health (busBreaker i)) ≡ false → (b : ℕ) → b < n
     → cutSets n H b ≡ cutSets n (reported H (record { part = busBreaker i; word = StuckClosed })) b
 unfolding reported samePart
 stuck-closed-same n H i e b hb =
@@ -421,8 +431,8 @@ stuck-closed-same n H i e b hb =
     (record { generators = λ g h. refl; generator-breakers = λ g h. refl; bus-breakers = λ j h. go j (dec-eq (suc j) (suc i)) }) b hb
   where
     go : (j : ℕ) → (suc j ≡ suc i) ⊎ (suc j ≢ suc i)
-        → stuckOpen (H (busBreaker j)) ≡ stuckOpen (reported H (record { part = busBreaker i; word = StuckClosed }) (busBreaker j))
-    go j (inl z) = rw (eq-eqb (suc j) (suc i) z) (ap (λ k. stuckOpen (H (BusBreaker k))) z ∙ e)
+        → stuckOpen (H .health (busBreaker j)) ≡ stuckOpen (reported H (record { part = busBreaker i; word = StuckClosed }) .health (busBreaker j))
+    go j (inl z) = rw (eq-eqb (suc j) (suc i) z) (ap (λ k. stuckOpen (H .health (BusBreaker k))) z ∙ e)
     go j (inr z) = rw (ne-eqb (suc j) (suc i) z)
 
 -- ---- worked examples

@@ -114,7 +114,7 @@ module _ (n : ℕ) (H : PartHealth) (C : PartCommands) (b : ℕ) where
 pub record Feeding (n : ℕ) (H : PartHealth) (C : PartCommands) (b g : ℕ) : Type 0 where
   pub runs : fitGenerator H g ≡ true
   pub on : C (generator g) ≡ true
-  pub breaker : closed (H (generatorBreaker g)) (C (generatorBreaker g)) ≡ true
+  pub breaker : closed (H .health (generatorBreaker g)) (C (generatorBreaker g)) ≡ true
   pub line : Leads n (busBreakerClosed H C) g b
 
 module _ {n : ℕ} {H : PartHealth} {C : PartCommands} {b g : ℕ} where
@@ -122,7 +122,7 @@ module _ {n : ℕ} {H : PartHealth} {C : PartCommands} {b g : ℕ} where
   unfolding feeds
   feeds-at hg hb e =
       let R = running H C g in
-      let K = closed (H (generatorBreaker g)) (C (generatorBreaker g)) in
+      let K = closed (H .health (generatorBreaker g)) (C (generatorBreaker g)) in
       let J = connected n (busBreakerClosed H C) g b in
       let rk : R && K ≡ true = and-left (R && K) J e in
       let r : R ≡ true = and-left R K rk in
@@ -137,7 +137,7 @@ module _ {n : ℕ} {H : PartHealth} {C : PartCommands} {b g : ℕ} where
   unfolding feeds
   feeds-of hg hb f =
       let R = running H C g in
-      let K = closed (H (generatorBreaker g)) (C (generatorBreaker g)) in
+      let K = closed (H .health (generatorBreaker g)) (C (generatorBreaker g)) in
       and-intro (R && K) _ (and-intro R K (and-intro (fitGenerator H g) (C (generator g)) (f .runs) (f .on)) (f .breaker))
       (leads-connected hg hb (f .line))
 
@@ -157,9 +157,9 @@ closed-by h c p q = or-right (stuckClosed h) _ (rw (p, q))
 -- every generator that runs, and every breaker that is closed, by H and C is so by K and D
 pub record Less (n : ℕ) (H : PartHealth) (C : PartCommands) (K : PartHealth) (D : PartCommands) : Type 0 where
   pub runs : (g : ℕ) → g < n → fitGenerator H g ≡ true → C (generator g) ≡ true → (fitGenerator K g ≡ true) × (D (generator g) ≡ true)
-  pub breaker : (g : ℕ) → g < n → closed (H (generatorBreaker g)) (C (generatorBreaker g)) ≡ true
-      → closed (K (generatorBreaker g)) (D (generatorBreaker g)) ≡ true
-  pub line : (i : ℕ) → i < n → closed (H (busBreaker i)) (C (busBreaker i)) ≡ true → closed (K (busBreaker i)) (D (busBreaker i)) ≡ true
+  pub breaker : (g : ℕ) → g < n → closed (H .health (generatorBreaker g)) (C (generatorBreaker g)) ≡ true
+      → closed (K .health (generatorBreaker g)) (D (generatorBreaker g)) ≡ true
+  pub line : (i : ℕ) → i < n → closed (H .health (busBreaker i)) (C (busBreaker i)) ≡ true → closed (K .health (busBreaker i)) (D (busBreaker i)) ≡ true
 
 pub feeds-less : {n : ℕ} {H K : PartHealth} {C D : PartCommands} → Less n H C K D → (b g : ℕ) → g < n → b < n → feeds n H C b g ≡ true
     → feeds n K D b g ≡ true
@@ -221,23 +221,23 @@ module _ (n : ℕ) (H : PartHealth) where
   all-safe = safe-chosen n H n (omega arith)
 
   -- with the plan's commands, the closed bus breakers are those that count as closed
-  closed-counted : (i : ℕ) → i < n → closed (H (busBreaker i)) (commands n H (busBreaker i)) ≡ true → countedClosed n H all i ≡ true
+  closed-counted : (i : ℕ) → i < n → closed (H .health (busBreaker i)) (commands n H (busBreaker i)) ≡ true → countedClosed n H all i ≡ true
   unfolding countedClosed commands
-  closed-counted i h e = go (closed-case (H (busBreaker i)) (commands n H (busBreaker i)) e)
+  closed-counted i h e = go (closed-case (H .health (busBreaker i)) (commands n H (busBreaker i)) e)
     where
-      go : (stuckClosed (H (busBreaker i)) ≡ true) ⊎ ((stuckOpen (H (busBreaker i)) ≡ false) × (onPaths n all (busBreaker i) ≡ true))
-          → stuckClosed (H (busBreaker i)) || onPaths n all (busBreaker i) ≡ true
-      go (inl p) = or-left (stuckClosed (H (busBreaker i))) _ p
-      go (inr p) = or-right (stuckClosed (H (busBreaker i))) _ (p .1)
+      go : (stuckClosed (H .health (busBreaker i)) ≡ true) ⊎ ((stuckOpen (H .health (busBreaker i)) ≡ false) × (onPaths n all (busBreaker i) ≡ true))
+          → stuckClosed (H .health (busBreaker i)) || onPaths n all (busBreaker i) ≡ true
+      go (inl p) = or-left (stuckClosed (H .health (busBreaker i))) _ p
+      go (inr p) = or-right (stuckClosed (H .health (busBreaker i))) _ (p .1)
 
-  counted-closed : (i : ℕ) → i < n → countedClosed n H all i ≡ true → closed (H (busBreaker i)) (commands n H (busBreaker i)) ≡ true
+  counted-closed : (i : ℕ) → i < n → countedClosed n H all i ≡ true → closed (H .health (busBreaker i)) (commands n H (busBreaker i)) ≡ true
   unfolding countedClosed commands
-  counted-closed i h e = go (or-cases (stuckClosed (H (busBreaker i))) (onPaths n all (busBreaker i)) e)
+  counted-closed i h e = go (or-cases (stuckClosed (H .health (busBreaker i))) (onPaths n all (busBreaker i)) e)
     where
-      go : (stuckClosed (H (busBreaker i)) ≡ true) ⊎ (onPaths n all (busBreaker i) ≡ true)
-          → closed (H (busBreaker i)) (onPaths n all (busBreaker i)) ≡ true
-      go (inl p) = or-left (stuckClosed (H (busBreaker i))) _ p
-      go (inr p) = closed-by (H (busBreaker i)) (onPaths n all (busBreaker i)) (counted-usable all-safe i e) p
+      go : (stuckClosed (H .health (busBreaker i)) ≡ true) ⊎ (onPaths n all (busBreaker i) ≡ true)
+          → closed (H .health (busBreaker i)) (onPaths n all (busBreaker i)) ≡ true
+      go (inl p) = or-left (stuckClosed (H .health (busBreaker i))) _ p
+      go (inr p) = closed-by (H .health (busBreaker i)) (onPaths n all (busBreaker i)) (counted-usable all-safe i e) p
 
   -- a part that is commanded on or closed is on a chosen path
   pub commanded-at : (p : Part) → commands n H p ≡ true → (w : Path) × (w ∈ chosen n H n) × (p ∈ pathParts n w)
@@ -265,7 +265,7 @@ module _ (n : ℕ) (H : PartHealth) where
         runs = u .runs;
         on = commanded-in (generator (w .source)) m (source-on n w);
         breaker =
-            closed-by (H (generatorBreaker (w .source))) (commands n H (generatorBreaker (w .source))) (u .breaker)
+            closed-by (H .health (generatorBreaker (w .source))) (commands n H (generatorBreaker (w .source))) (u .breaker)
             (commanded-in (generatorBreaker (w .source)) m (breaker-on n w));
         line = leads-mono counted-closed r;
       })
@@ -330,10 +330,10 @@ pub reaches-usable : {n : ℕ} {H : PartHealth} {b g : ℕ} → b < n → Reache
 reaches-usable {n} {H} {b} {g} hb c = go (leads-arcs hb (c .line))
   where
     free : ℕ → Bool
-    free i = not (stuckOpen (H (busBreaker i)))
+    free i = not (stuckOpen (H .health (busBreaker i)))
 
     whole : (r : Bool) → ((i : ℕ) → i < n → Uses n (pathTo b g r) i → free i ≡ true) → Usable n H (pathTo b g r)
-    whole r f = record { runs = c .runs; breaker = c .breaker; line = λ i h l. not-true (stuckOpen (H (busBreaker i))) (f i h l) }
+    whole r f = record { runs = c .runs; breaker = c .breaker; line = λ i h l. not-true (stuckOpen (H .health (busBreaker i))) (f i h l) }
 
     go : Arc n free g b ⊎ Arc n free b g → (r : Bool) × Usable n H (pathTo b g r)
     go (inl f) = (true, whole true f)
@@ -345,6 +345,6 @@ usable-reaches {n} {H} {b} {g} r hg hb u = record {
   runs = u .runs;
   breaker = u .breaker;
   line =
-      path-leads {w = pathTo b g r} (λ i. not (stuckOpen (H (busBreaker i)))) (record { source = hg; bus = hb })
-      (λ i h l. not-of (stuckOpen (H (busBreaker i))) (u .line i h l));
+      path-leads {w = pathTo b g r} (λ i. not (stuckOpen (H .health (busBreaker i)))) (record { source = hg; bus = hb })
+      (λ i h l. not-of (stuckOpen (H .health (busBreaker i))) (u .line i h l));
 }

@@ -37,11 +37,11 @@ module _ (n : ℕ) (H : PartHealth) where
   pub on-fit : (g : ℕ) → commands n H (generator g) ≡ true → fitGenerator H g ≡ true
   on-fit g e = let t = commanded-at n H (generator g) e in rw (generator-on n (t .0) g (t .2)) (safe .usables (t .0) (t .1) .runs)
 
-  pub breaker-free : (g : ℕ) → commands n H (generatorBreaker g) ≡ true → stuckOpen (H (generatorBreaker g)) ≡ false
+  pub breaker-free : (g : ℕ) → commands n H (generatorBreaker g) ≡ true → stuckOpen (H .health (generatorBreaker g)) ≡ false
   breaker-free g e =
       let t = commanded-at n H (generatorBreaker g) e in rw (generator-breaker-on n (t .0) g (t .2)) (safe .usables (t .0) (t .1) .breaker)
 
-  pub line-free : (i : ℕ) → commands n H (busBreaker i) ≡ true → stuckOpen (H (busBreaker i)) ≡ false
+  pub line-free : (i : ℕ) → commands n H (busBreaker i) ≡ true → stuckOpen (H .health (busBreaker i)) ≡ false
   line-free i e =
       let t = commanded-at n H (busBreaker i) e in
       let u = path-at i (safe .ends (t .0) (t .1)) (bus-breaker-on n (t .0) i (t .2)) in
@@ -49,8 +49,8 @@ module _ (n : ℕ) (H : PartHealth) where
 
 -- no breaker is stuck closed in K that was not in H
 pub record NoneStuckClosed (n : ℕ) (H K : PartHealth) : Type 0 where
-  pub breaker : (g : ℕ) → g < n → stuckClosed (K (generatorBreaker g)) ≡ true → stuckClosed (H (generatorBreaker g)) ≡ true
-  pub line : (i : ℕ) → i < n → stuckClosed (K (busBreaker i)) ≡ true → stuckClosed (H (busBreaker i)) ≡ true
+  pub breaker : (g : ℕ) → g < n → stuckClosed (K .health (generatorBreaker g)) ≡ true → stuckClosed (H .health (generatorBreaker g)) ≡ true
+  pub line : (i : ℕ) → i < n → stuckClosed (K .health (busBreaker i)) ≡ true → stuckClosed (H .health (busBreaker i)) ≡ true
 
 -- a breaker that is closed by health k and command c was closed by health h and command d
 was-closed : (h k : ℕ) (c d : Bool) → (stuckClosed k ≡ true → stuckClosed h ≡ true) → (d ≡ true → stuckOpen h ≡ false)
@@ -71,10 +71,10 @@ opening-single n H K C e f b hb = single-less less b hb (single n H b hb)
     less = record {
       runs = λ g hg r c. let d = f (generator g) (at-index n g hg) c in (on-fit n H g d, d);
       breaker =
-          λ g hg c. was-closed (H (generatorBreaker g)) (K (generatorBreaker g)) (C (generatorBreaker g))
+          λ g hg c. was-closed (H .health (generatorBreaker g)) (K .health (generatorBreaker g)) (C (generatorBreaker g))
           (commands n H (generatorBreaker g)) (e .breaker g hg) (breaker-free n H g) (f (generatorBreaker g) (at-index n g hg)) c;
       line =
-          λ i hi c. was-closed (H (busBreaker i)) (K (busBreaker i)) (C (busBreaker i)) (commands n H (busBreaker i)) (e .line i hi)
+          λ i hi c. was-closed (H .health (busBreaker i)) (K .health (busBreaker i)) (C (busBreaker i)) (commands n H (busBreaker i)) (e .line i hi)
           (line-free n H i) (f (busBreaker i) (at-index n i hi)) c;
     }
 
@@ -86,9 +86,9 @@ closing-single n H C f b hb = single-less less b hb (single n H b hb)
     less = record {
       runs = λ g hg r c. (r, f (generator g) (at-index n g hg) c);
       breaker =
-          λ g hg c. was-closed (H (generatorBreaker g)) (H (generatorBreaker g)) (C (generatorBreaker g))
+          λ g hg c. was-closed (H .health (generatorBreaker g)) (H .health (generatorBreaker g)) (C (generatorBreaker g))
           (commands n H (generatorBreaker g)) (λ s. s) (breaker-free n H g) (f (generatorBreaker g) (at-index n g hg)) c;
       line =
-          λ i hi c. was-closed (H (busBreaker i)) (H (busBreaker i)) (C (busBreaker i)) (commands n H (busBreaker i)) (λ s. s)
+          λ i hi c. was-closed (H .health (busBreaker i)) (H .health (busBreaker i)) (C (busBreaker i)) (commands n H (busBreaker i)) (λ s. s)
           (line-free n H i) (f (busBreaker i) (at-index n i hi)) c;
     }

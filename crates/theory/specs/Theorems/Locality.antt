@@ -18,7 +18,7 @@ use Rattle.model.specs.Plant.{
   generator,
   generatorBreaker,
   busBreaker,
-  fit,
+  fitGenerator,
   stuckOpen,
   closed,
   busBreakerClosed,
@@ -34,7 +34,7 @@ use Rattle.model.specs.Choosing.{usable, countedClosed, isolated, permitted, ch
 use Rattle.model.specs.Sheet.{opening}
 use Rattle.model.specs.Laws.Lists.{all-cons, all-ext, first-ext, keep-ext, map-ext, below-lt}
 use Rattle.model.specs.Reports.{healthOf, healthPlaces}
-use Rattle.model.specs.Laws.Parts.{at-index, parts-at, health-places}
+use Rattle.model.specs.Laws.Parts.{at-index, parts-at, health-places, lock-places}
 use Rattle.theory.specs.Theorems.Connected.{connected-ext}
 use Rattle.theory.specs.Proofs.Paths.{Ends, path-in-ring, breakers-on, tried-at}
 use Rattle.theory.specs.Proofs.Choosing.{safe-chosen}
@@ -44,21 +44,30 @@ use Rattle.theory.specs.Theorems.Feeds.{commanded-at}
 abbrev pub Agree : {A : Type 0} → ℕ → (Part → A) → (Part → A) → Type 0
 Agree n f g = (p : Part) → InRing n p → f p ≡ g p
 
+-- two healths that agree on the ring: so do the locks
+pub record SameHealth (n : ℕ) (H K : PartHealth) : Type 0 where
+  pub health : Agree n (H .health) (K .health)
+  pub locked : (g : ℕ) → g < n → H .locked g ≡ K .locked g
+
+-- the same generators are fit
+fit-ext : (n : ℕ) (H K : PartHealth) → SameHealth n H K → (g : ℕ) → g < n → fitGenerator H g ≡ fitGenerator K g
+fit-ext n H K same g h = rw (same .health (generator g) (at-index n g h), same .locked g h)
+
 -- ---- choosing
 
-module _ (n : ℕ) (H K : PartHealth) (same : Agree n H K) where
+module _ (n : ℕ) (H K : PartHealth) (same : SameHealth n H K) where
   usable-ext : (w : Path) → Ends n w → usable n H w ≡ usable n K w
   unfolding usable
   usable-ext w h =
-      ap₂ _&&_ (ap fit (same (generator (w .source)) (at-index n (w .source) (h .source))))
-      (all-ext (λ p. not (stuckOpen (H p))) (λ p. not (stuckOpen (K p))) (pathBreakers n w)
-      (λ p m. rw (same p (path-in-ring n w h p (breakers-on n w p m)))))
+      ap₂ _&&_ (fit-ext n H K same (w .source) (h .source))
+      (all-ext (λ p. not (stuckOpen (H .health p))) (λ p. not (stuckOpen (K .health p))) (pathBreakers n w)
+      (λ p m. rw (same .health p (path-in-ring n w h p (breakers-on n w p m)))))
 
   isolated-ext : (ws : List Path) → ((w : Path) → w ∈ ws → Ends n w) → isolated n H ws ≡ isolated n K ws
   unfolding isolated countedClosed
   isolated-ext ws ends = all-ext _ _ ws (λ v mv. all-ext _ _ ws (λ w mw. ap (λ t. eqb (v .source) (w .source) || not t)
       (connected-ext n (countedClosed n H ws) (countedClosed n K ws) (v .source) (w .source) (ends v mv .source) (ends w mw .source)
-      (λ i h. rw (same (busBreaker i) (at-index n i h))))))
+      (λ i h. rw (same .health (busBreaker i) (at-index n i h))))))
 
   choose-ext : (ws : List Path) (b : ℕ) → b < n → ((w : Path) → w ∈ ws → Ends n w) → choose n H ws b ≡ choose n K ws b
   unfolding choose permitted
@@ -97,8 +106,8 @@ commanded-in-ring n H p e =
 
 -- the arrays that a health is made of plan as it does
 module _ (n : ℕ) (small : n ≤ largest) (H : PartHealth) where
-  held : Agree n (healthOf (healthPlaces H)) H
-  held p r = health-places H p (r .0, omega (arith, r .1))
+  held : SameHealth n (healthOf (healthPlaces H)) H
+  held = record { health = λ p r. health-places H p (r .0, omega (arith, r .1)); locked = λ g h. lock-places H g (omega arith) }
 
   pub choices-held : choices n (healthOf (healthPlaces H)) ≡ choices n H
   choices-held = choices-ext n (healthOf (healthPlaces H)) H held
@@ -116,7 +125,7 @@ module _ (n : ℕ) (C C′ D D′ : PartCommands) (olds : Agree n C C′) (news 
 
 -- ---- the reckoning
 
-pub feed-ext : (n : ℕ) (H K : PartHealth) (C D : PartCommands) → Agree n H K → Agree n C D → (b : ℕ) → b < n
+pub feed-ext : (n : ℕ) (H K : PartHealth) (C D : PartCommands) → SameHealth n H K → Agree n C D → (b : ℕ) → b < n
     → busFeed n H C b ≡ busFeed n K D b
 unfolding busFeed feeders feeds
 feed-ext n H K C D same both b hb = ap feedBy (keep-ext (feeds n H C b) (feeds n K D b) (below n) (λ g m. one g (below-lt n g m)))
@@ -124,9 +133,9 @@ feed-ext n H K C D same both b hb = ap feedBy (keep-ext (feeds n H C b) (feeds n
     one : (g : ℕ) → g < n → feeds n H C b g ≡ feeds n K D b g
     one g hg =
         let r = at-index n g hg in
-        let near : running H C g && closed (H (generatorBreaker g)) (C (generatorBreaker g))
-        ≡ running K D g && closed (K (generatorBreaker g)) (D (generatorBreaker g)) =
-        rw (same (generator g) r, same (generatorBreaker g) r, both (generator g) r, both (generatorBreaker g) r) in
+        let near : running H C g && closed (H .health (generatorBreaker g)) (C (generatorBreaker g))
+        ≡ running K D g && closed (K .health (generatorBreaker g)) (D (generatorBreaker g)) =
+        rw (fit-ext n H K same g hg, same .health (generatorBreaker g) r, both (generator g) r, both (generatorBreaker g) r) in
         ap₂ _&&_ near
         (connected-ext n (busBreakerClosed H C) (busBreakerClosed K D) g b hg hb
-        (λ i h. let s = at-index n i h in rw (same (busBreaker i) s, both (busBreaker i) s)))
+        (λ i h. let s = at-index n i h in rw (same .health (busBreaker i) s, both (busBreaker i) s)))

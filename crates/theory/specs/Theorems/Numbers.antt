@@ -56,6 +56,7 @@ use Rattle.model.specs.Refusals.{
   tooShort,
   healthOutside,
   activeAbove,
+  lockedAbove,
   unplanned,
   badRing,
   busOutside,
@@ -440,7 +441,7 @@ unfolding fileAnswer fileRefusal firstMet sizeOutside reportsRefusal reportRefus
     partNamed partCode parts below first wordNamed outcomeOf sheetRefusal tooShort cutSetsReply cutSetsRefusal badRing anyOf blankRing
     refusedCutSets started withPlan planned commands onPaths chosen addPath choose permitted isolated countedClosed usable paths pathsFrom
     highRises pathParts pathBreakers pathBusBreakers sources others flatMap connected arc up next samePart allOf keep places healthOf
-    commandsOf healthPlaces commandPlaces healthOutside healthOfKind activeAbove unplanned busOutside scanRefusal countAbove full
+    commandsOf healthPlaces commandPlaces healthOutside healthOfKind activeAbove lockedAbove unplanned busOutside scanRefusal countAbove full
     unloaded noLoad reckoned withFigures wattsOf totalWatts stateRefusal badRecord badLoad liveTwice isLive bookingOutside wattsOutside
     otherFigures noPlace stateScan refusedState bookAnswer bookRefusal cancelAnswer cancelRefusal choices choiceOf plan
 others-given = (
@@ -470,7 +471,7 @@ unfolding fileRefusal firstMet sizeOutside reportRefusal reportAnswer reportOf r
 each-gives = (
   λ never. never .ring-after (3 ∷ 0 ∷ []) refl,
   λ never. never .part-of 3 3 refl,
-  λ never. never .word-of 4 refl,
+  λ never. never .word-of 6 refl,
   λ never. never .report-at 3 (3 ∷ []) (1 ∷ []) 0 refl,
   λ never. never .check-report 3 no-word refl,
   λ never. never .feeds 2 (blankRing 2 .health) (blankRing 2 .commands) refl,
