@@ -6,7 +6,7 @@ use Prim.Native.Nat.{ℕ, _+_, _≤_, _<_}
 use native.Mathlib.Numerals.{add-one}
 use lib.Dec.{eqb, ltb}
 use borrow.Author.Tests.{eq-eqb, ne-eqb, ltb-true, ltb-false}
-use Rattle.model.specs.Plant.{smallest, largest, next}
+use Rattle.model.specs.Plant.{smallest, largest, fit, next}
 use Rattle.model.specs.Refusals.{sizeOutside, busOutside}
 use Rattle.model.specs.Laws.Tests.{contra, dec, dec-lt, dec-eq}
 use Rattle.model.specs.Laws.Refusals.{outside, inside}
@@ -82,6 +82,16 @@ module _ (a b : ℕ) where
       go : (a ≡ b) ⊎ (a ≢ b) → r ≡ not (eqb a b) && t
       go (inl e) = rw (eq-eqb a b e) (is-false r (p e))
       go (inr e) = rw (ne-eqb a b e) (q e)
+
+-- "Fit .. now means not stuck off and not locked": of a generator's health h and its lock l
+pub fit-test : (h : ℕ) (l r : Bool) → (h ≢ 0 → r ≡ true → ⊥) → (l ≡ true → r ≡ true → ⊥) → (h ≡ 0 → l ≡ false → r ≡ false → ⊥)
+    → r ≡ fit h && not l
+fit-test h l r off locked fits = go (dec-eq h 0) (dec l)
+  where
+    go : (h ≡ 0) ⊎ (h ≢ 0) → (l ≡ true) ⊎ (l ≡ false) → r ≡ fit h && not l
+    go (inl e) (inl f) = rw (eq-eqb h 0 e, f) (is-false r (locked f))
+    go (inl e) (inr f) = rw (eq-eqb h 0 e, f) (is-true r (fits e f))
+    go (inr e) f = rw (ne-eqb h 0 e) (is-false r (off e))
 
 -- "BBn joins Bn and B1": the bus after another
 pub next-test : (n k r : ℕ) → (k + 1 ≢ n → r ≡ k + 1) → (k + 1 ≡ n → r ≡ 0) → r ≡ next n k

@@ -1,6 +1,7 @@
 // What the plan, the plant reckoning, the files and the ring states share: the bus after another, whether a generator is fit, and the
 // tests of a ring's size and of a bus's number. Buses are indices from 0, the paper's numbers less 1.
 ghost use mathlib.Core.Path.{_≡_};
+ghost use mathlib.Core.Bool.{not, _&&_};
 ghost use Prim.Native.Nat.{_≤_, _<_};
 ghost use Rattle.model.specs.Plant.{fit, next as busAfter};
 ghost use Rattle.model.specs.Refusals.{sizeOutside, busOutside};
@@ -16,11 +17,12 @@ pub fn next(n: usize, k: usize) -> usize
     if j < n { j } else { 0 }
 }
 
-// "A generator is fit": the one line by which choosing, running and reaching judge a generator by its health.
-pub fn fit_generator(generator: u8) -> bool
-    ensures { λ r. ⌜ r ≡ fit generator ⌝ }
+// "Fit, in choosing, in the plant, in further faults and in judging a dark bus, now means not stuck off and not locked." (document 02, Note
+// 7): the one line by which they judge a generator, by its health and its lock.
+pub fn fit_generator(generator: u8, locked: bool) -> bool
+    ensures { λ r. ⌜ r ≡ fit generator && not locked ⌝ }
 {
-    generator == FIT
+    generator == FIT && !locked
 }
 
 // 2: "n below 3 or above 20"

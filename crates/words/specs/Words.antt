@@ -7,7 +7,7 @@ use native.Mathlib.Omega.{arith}
 use lib.Dec.{eqb}
 use borrow.Author.Tests.{eqb-true, ne-eqb}
 use Rattle.model.specs.declared.Word.{Word}
-use Rattle.model.specs.declared.Word.the-variants.{Fit, StuckOff, StuckOpen, StuckClosed}
+use Rattle.model.specs.declared.Word.the-variants.{Fit, StuckOff, StuckOpen, StuckClosed, Lock, Unlock}
 use Rattle.model.specs.declared.WordAnswer.{WordAnswer}
 use Rattle.model.specs.declared.WordAnswer.the-variants as word
 use Rattle.model.specs.Lists.{first, isNone}
@@ -24,16 +24,19 @@ number-names Fit = refl
 number-names StuckOff = refl
 number-names StuckOpen = refl
 number-names StuckClosed = refl
+number-names Lock = refl
+number-names Unlock = refl
 
 -- a byte names the word that has it for its number
 pub word-named : (v : ℕ) (w : Word) → wordNamed v ≡ some w → wordNumber w ≡ v
 unfolding wordNamed
-word-named v w e = eqb-true (wordNumber w) v (first-at (λ u. eqb (wordNumber u) v) (Fit ∷ StuckOff ∷ StuckOpen ∷ StuckClosed ∷ []) w e .1)
+word-named v w e =
+    eqb-true (wordNumber w) v (first-at (λ u. eqb (wordNumber u) v) (Fit ∷ StuckOff ∷ StuckOpen ∷ StuckClosed ∷ Lock ∷ Unlock ∷ []) w e .1)
 
 -- a number above those of the words names none
-pub no-word : (v : ℕ) → 3 < v → wordNamed v ≡ none
+pub no-word : (v : ℕ) → 5 < v → wordNamed v ≡ none
 unfolding wordNamed
-no-word v h = first-none (λ u. eqb (wordNumber u) v) (Fit ∷ StuckOff ∷ StuckOpen ∷ StuckClosed ∷ [])
+no-word v h = first-none (λ u. eqb (wordNumber u) v) (Fit ∷ StuckOff ∷ StuckOpen ∷ StuckClosed ∷ Lock ∷ Unlock ∷ [])
     (λ u m. ne-eqb (wordNumber u) v (other u))
   where
     other : (w : Word) → wordNumber w ≡ v → ⊥
@@ -41,6 +44,8 @@ no-word v h = first-none (λ u. eqb (wordNumber u) v) (Fit ∷ StuckOff ∷ Stuc
     other StuckOff e = omega arith
     other StuckOpen e = omega arith
     other StuckClosed e = omega arith
+    other Lock e = omega arith
+    other Unlock e = omega arith
 
 -- r is the answer to the byte v, with its values
 abbrev pub WordAnswered : ℕ → WordAnswer → Type 0
@@ -60,6 +65,6 @@ unfolding wordAnswer
 word-of-number v w e = word-gives v (word.Named w) (rw (e, number-names w))
 
 -- a number above those of the words
-pub word-above : (v : ℕ) → 3 < v → WordAnswered v (word.Refused 6)
+pub word-above : (v : ℕ) → 5 < v → WordAnswered v (word.Refused 6)
 unfolding wordAnswer
 word-above v h = word-gives v (word.Refused 6) (rw (no-word v h))

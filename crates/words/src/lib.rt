@@ -6,7 +6,8 @@ ghost use Rattle.model.specs.Answers.{wordAnswer, byteValues};
 use model::Word;
 use model::WordAnswer;
 
-// "Words: 0 fit again, 1 stuck off (generators), 2 stuck open, 3 stuck closed (breakers)."
+// "Words: 0 fit again, 1 stuck off (generators), 2 stuck open, 3 stuck closed (breakers)."; "Word 4 locks it and word 5 unlocks it" (document
+// 02, Note 7).
 pub fn word_of(byte: u8) -> WordAnswer
     ensures answer { λ r. ⌜ r ≡ wordAnswer (wordNamed byte) ⌝ }
     ensures values { λ r. ⌜ wordValues r ≡ byteValues byte ⌝ }
@@ -16,6 +17,8 @@ pub fn word_of(byte: u8) -> WordAnswer
         1 => WordAnswer::Named(Word::StuckOff),
         2 => WordAnswer::Named(Word::StuckOpen),
         3 => WordAnswer::Named(Word::StuckClosed),
+        4 => WordAnswer::Named(Word::Lock),
+        5 => WordAnswer::Named(Word::Unlock),
         _ => WordAnswer::Refused(6),
     }
 }
@@ -29,5 +32,7 @@ pub fn number_of(word: Word) -> u8
         Word::StuckOff => 1,
         Word::StuckOpen => 2,
         Word::StuckClosed => 3,
+        Word::Lock => 4,
+        Word::Unlock => 5,
     }
 }
