@@ -1,7 +1,7 @@
 -- Each call is served or refused as it must be: which refusal meets a start, a step or a scan, and what is claimed of the reply that has
 -- its number.
 use mathlib.Core.Path.{_≡_, refl, sym, _∙_, ap}
-use mathlib.Core.Bool.{true, false, cond}
+use mathlib.Core.Bool.{Bool, true, false, cond}
 use mathlib.Core.Logic.{_≢_, _⊎_, inl, inr}
 use mathlib.Core.List.{List, [], _∷_}
 use Prim.Native.Nat.{ℕ, zero, suc, _≤_, _<_, min}
@@ -13,7 +13,7 @@ use borrow.Author.Tests.{ltb-true, ltb-false, lt-ltb, le-ltb, ne-eqb}
 use Rattle.model.specs.declared.Part.{Part}
 use Rattle.model.specs.declared.Part.the-variants.{Generator, GeneratorBreaker, BusBreaker}
 use Rattle.model.specs.declared.Word.{Word}
-use Rattle.model.specs.declared.Word.the-variants.{Fit, StuckOff, StuckOpen, StuckClosed}
+use Rattle.model.specs.declared.Word.the-variants.{Fit, StuckOff, StuckOpen, StuckClosed, Lock, Unlock}
 use Rattle.model.specs.declared.Report.{Report}
 use Rattle.model.specs.declared.Ring.{Ring}
 use Rattle.model.specs.declared.RingState.{RingState}
@@ -22,7 +22,7 @@ use Rattle.model.specs.Values.{number, wordNumber, outcomeOf}
 use Rattle.model.specs.Plant.{smallest, largest, allOff, InRing}
 use Rattle.model.specs.Choosing.{plan, commands}
 use Rattle.model.specs.Sheet.{opening, closing, sheetOf, sheet, written}
-use Rattle.model.specs.Reports.{reported, allFit, healthOf, commandsOf, blankRing, told}
+use Rattle.model.specs.Reports.{healthBy, lockBy, reported, allFit, healthOf, commandsOf, blankRing, told}
 use Rattle.model.specs.Refusals.{
   firstMet,
   orElse,
@@ -57,12 +57,13 @@ use Rattle.model.specs.States.{
 use Rattle.model.specs.Laws.Tests.{contra, dec, dec-eq, dec-lt, or-cases, or-none}
 use Rattle.model.specs.Laws.Refusals.{size-bounds, refused-number}
 use Rattle.model.specs.Laws.Calls.{or-nothing, step-refusal, scan-refusal}
-use Rattle.model.specs.Laws.Parts.{health-places, command-places}
+use Rattle.model.specs.Laws.Parts.{health-places, lock-places, command-places}
 use Rattle.model.specs.Laws.Sheet.{sheetOf-length}
 use Rattle.demands.specs.Statements.Demand3.{
   PlantState,
   freshPlant,
   effect,
+  lockEffect,
   afterWord,
   afterWords,
   Call,
@@ -221,16 +222,21 @@ full-length = length-replicate {A = ℕ} 122 0
 
 -- ---- the start
 
--- every part of a blank ring is fit
+-- every part of a blank ring is fit, and none is locked
 pub blank-fit : (n : ℕ) (p : Part) → InRing largest p → healthOf (blankRing n .health) .health p ≡ 0
 unfolding blankRing
 blank-fit n p i = health-places allFit p i
+
+pub blank-unlocked : (n g : ℕ) → g < largest → healthOf (blankRing n .health) .locked g ≡ false
+unfolding blankRing
+blank-unlocked n g l = lock-places allFit g l
 
 pub start-ready : (n : ℕ) → n ≤ largest → Ready n (blankRing n) freshPlant
 unfolding blankRing
 start-ready n small = record {
   size = refl;
-  health = λ p i. health-places allFit p (i .0, omega (arith, i .1));
+  health =
+      record { health = λ p i. health-places allFit p (i .0, omega (arith, i .1)); locked = λ g l. lock-places allFit g (omega arith) };
   standing = λ p i. command-places allOff p (i .0, omega (arith, i .1));
 }
 
@@ -315,20 +321,36 @@ module _ (n : ℕ) (buffer : List ℕ) (begun : isServed (stateStart n buffer) �
 
 -- ---- a report, in the record and in the plant
 
-same-effect : (w : Word) → wordNumber w ≡ effect w
-same-effect Fit = refl
-same-effect StuckOff = refl
-same-effect StuckOpen = refl
-same-effect StuckClosed = refl
+same-effect : (w : Word) (h : ℕ) → healthBy w h ≡ effect w h
+same-effect Fit h = refl
+same-effect StuckOff h = refl
+same-effect StuckOpen h = refl
+same-effect StuckClosed h = refl
+same-effect Lock h = refl
+same-effect Unlock h = refl
+
+same-lock : (w : Word) (l : Bool) → lockBy w l ≡ lockEffect w l
+same-lock Fit l = refl
+same-lock StuckOff l = refl
+same-lock StuckOpen l = refl
+same-lock StuckClosed l = refl
+same-lock Lock l = refl
+same-lock Unlock l = refl
 
 -- the ring and the plant, ready for the phases of a call: a report more
 told-ready : {n : ℕ} {ring : Ring} {P : PlantState} → n ≤ largest → Ready n ring P → (r : Report) → Ready n (told ring r) (afterWord r P)
 unfolding told reported afterWord
-told-ready {ring = ring} small ready r = record {
+told-ready {ring = ring} {P} small ready r = record {
   size = ready .size;
   health =
-      λ p i. health-places (reported (healthOf (ring .health)) r) p (i .0, omega (arith, i .1)) ∙ rw
-      (same-effect (r .word), ready .health p i);
+      record {
+        health =
+            λ p i. health-places (reported (healthOf (ring .health)) r) p (i .0, omega (arith, i .1))
+            ∙ rw (ready .health .health p i, same-effect (r .word) (P .health .health p));
+        locked =
+            λ g l. lock-places (reported (healthOf (ring .health)) r) g (omega arith)
+            ∙ rw (ready .health .locked g l, same-lock (r .word) (P .health .locked g));
+      };
   standing = ready .standing;
 }
 
@@ -366,14 +388,20 @@ word-refusal (Generator k) Fit x = refl
 word-refusal (Generator k) StuckOff x = refl
 word-refusal (Generator k) StuckOpen x = refl
 word-refusal (Generator k) StuckClosed x = refl
+word-refusal (Generator k) Lock x = refl
+word-refusal (Generator k) Unlock x = refl
 word-refusal (GeneratorBreaker k) Fit x = refl
 word-refusal (GeneratorBreaker k) StuckOff x = refl
 word-refusal (GeneratorBreaker k) StuckOpen x = refl
 word-refusal (GeneratorBreaker k) StuckClosed x = refl
+word-refusal (GeneratorBreaker k) Lock x = refl
+word-refusal (GeneratorBreaker k) Unlock x = refl
 word-refusal (BusBreaker k) Fit x = refl
 word-refusal (BusBreaker k) StuckOff x = refl
 word-refusal (BusBreaker k) StuckOpen x = refl
 word-refusal (BusBreaker k) StuckClosed x = refl
+word-refusal (BusBreaker k) Lock x = refl
+word-refusal (BusBreaker k) Unlock x = refl
 
 -- ---- the reports of a call
 

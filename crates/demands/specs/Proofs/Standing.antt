@@ -12,7 +12,7 @@ use borrow.Author.Tests.{eq-eqb, ne-eqb}
 use Rattle.model.specs.declared.Part.{Part}
 use Rattle.model.specs.declared.Part.the-variants.{Generator, GeneratorBreaker, BusBreaker}
 use Rattle.model.specs.declared.Word.{Word}
-use Rattle.model.specs.declared.Word.the-variants.{Fit, StuckOff, StuckOpen, StuckClosed}
+use Rattle.model.specs.declared.Word.the-variants.{Fit, StuckOff, StuckOpen, StuckClosed, Lock, Unlock}
 use Rattle.model.specs.declared.Report.{Report}
 use Rattle.model.specs.declared.Booking.{Booking}
 use Rattle.model.specs.declared.Load.{Load}
@@ -22,8 +22,8 @@ use Rattle.model.specs.declared.Outcome.the-variants as outcome
 use Rattle.model.specs.declared.BusChoice.{BusChoice}
 use Rattle.model.specs.declared.BookingAnswer.{BookingAnswer}
 use Rattle.model.specs.Values.{number, samePart, wordNumber, outcomeOf}
-use Rattle.model.specs.Plant.{smallest, largest, healthOfKind, InRing}
-use Rattle.model.specs.Reports.{reported, healthOf, blankRing, told, calledFor, withPlan}
+use Rattle.model.specs.Plant.{smallest, largest, generator, healthOfKind, InRing}
+use Rattle.model.specs.Reports.{healthBy, lockBy, reported, healthOf, blankRing, told, calledFor, withPlan}
 use Rattle.model.specs.Sheet.{written}
 use Rattle.model.specs.Refusals.{firstMet, nextSheet}
 use Rattle.model.specs.Scans.{toldAll}
@@ -45,7 +45,7 @@ use Rattle.model.specs.States.{
 use Rattle.model.specs.Laws.Tests.{contra, dec, dec-eq}
 use Rattle.model.specs.Laws.Lists.{any-in, any-false}
 use Rattle.model.specs.Laws.Refusals.{refused-number}
-use Rattle.model.specs.Laws.Parts.{same-eq, health-places}
+use Rattle.model.specs.Laws.Parts.{same-eq, health-places, lock-places}
 use Rattle.demands.specs.Statements.Demand3.{
   PlantState,
   freshPlant,
@@ -96,6 +96,7 @@ use Rattle.demands.specs.Proofs.Answering.{
   start-served,
   start-ready,
   blank-fit,
+  blank-unlocked,
   call-ready,
   served-fine,
   call-served,
@@ -106,33 +107,44 @@ use Rattle.demands.specs.Proofs.Booking.{bookingNumber, BookingFine, fin
 
 -- ---- words
 
--- a word that is not refused brings about a health of its part's kind
-word-of-kind : (p : Part) (w : Word) → wordRefusal p w ≡ 0 → healthOfKind p (wordNumber w) ≡ true
+-- a word that is not refused leaves a health of its part's kind
+word-of-kind : (p : Part) (w : Word) (h : ℕ) → wordRefusal p w ≡ 0 → healthOfKind p h ≡ true → healthOfKind p (healthBy w h) ≡ true
 unfolding wordRefusal healthOfKind
-word-of-kind (Generator k) Fit e = refl
-word-of-kind (Generator k) StuckOff e = refl
-word-of-kind (Generator k) StuckOpen e = absurd (omega arith)
-word-of-kind (Generator k) StuckClosed e = absurd (omega arith)
-word-of-kind (GeneratorBreaker k) Fit e = refl
-word-of-kind (GeneratorBreaker k) StuckOff e = absurd (omega arith)
-word-of-kind (GeneratorBreaker k) StuckOpen e = refl
-word-of-kind (GeneratorBreaker k) StuckClosed e = refl
-word-of-kind (BusBreaker k) Fit e = refl
-word-of-kind (BusBreaker k) StuckOff e = absurd (omega arith)
-word-of-kind (BusBreaker k) StuckOpen e = refl
-word-of-kind (BusBreaker k) StuckClosed e = refl
+word-of-kind (Generator k) Fit h e i = refl
+word-of-kind (Generator k) StuckOff h e i = refl
+word-of-kind (Generator k) StuckOpen h e i = absurd (omega arith)
+word-of-kind (Generator k) StuckClosed h e i = absurd (omega arith)
+word-of-kind (Generator k) Lock h e i = i
+word-of-kind (Generator k) Unlock h e i = i
+word-of-kind (GeneratorBreaker k) Fit h e i = refl
+word-of-kind (GeneratorBreaker k) StuckOff h e i = absurd (omega arith)
+word-of-kind (GeneratorBreaker k) StuckOpen h e i = refl
+word-of-kind (GeneratorBreaker k) StuckClosed h e i = refl
+word-of-kind (GeneratorBreaker k) Lock h e i = absurd (omega arith)
+word-of-kind (GeneratorBreaker k) Unlock h e i = absurd (omega arith)
+word-of-kind (BusBreaker k) Fit h e i = refl
+word-of-kind (BusBreaker k) StuckOff h e i = absurd (omega arith)
+word-of-kind (BusBreaker k) StuckOpen h e i = refl
+word-of-kind (BusBreaker k) StuckClosed h e i = refl
+word-of-kind (BusBreaker k) Lock h e i = absurd (omega arith)
+word-of-kind (BusBreaker k) Unlock h e i = absurd (omega arith)
 
--- a ring of n whose parts have healths of their kinds; above n they are fit
+-- a ring of n whose parts have healths of their kinds; above n they are fit and unlocked
 pub record Kinds (n : ℕ) (ring : Ring) : Type 0 where
   pub inside : (p : Part) → InRing n p → healthOfKind p (healthOf (ring .health) .health p) ≡ true
   pub above : (p : Part) → InRing largest p → n < number p → healthOf (ring .health) .health p ≡ 0
+  pub unlocked : (g : ℕ) → g < largest → n ≤ g → healthOf (ring .health) .locked g ≡ false
 
 pub steady-kinds : {n : ℕ} {W : World} → Steady n W → Kinds n (W .state .ring)
-steady-kinds s = record { inside = λ p i. rw (s .health p i) (s .kinds p i); above = λ p i l. s .above p i l .0 }
+steady-kinds s = record {
+  inside = λ p i. rw (s .health .health p i) (s .kinds p i);
+  above = λ p i l. s .above p i l .0;
+  unlocked = s .unlocked-above;
+}
 
 -- a report that is not refused
 module _ {n : ℕ} {ring : Ring} (small : n ≤ largest) (k : Kinds n ring) (r : Report) (good : Good n r) where
-  told-is : (p : Part) → InRing largest p → healthOf (told ring r .health) .health p ≡ reported (healthOf (ring .health)) r p
+  told-is : (p : Part) → InRing largest p → healthOf (told ring r .health) .health p ≡ reported (healthOf (ring .health)) r .health p
   unfolding told
   told-is p i = health-places (reported (healthOf (ring .health)) r) p i
 
@@ -141,8 +153,9 @@ module _ {n : ℕ} {ring : Ring} (small : n ≤ largest) (k : Kinds n ring) (r :
   told-inside p i = rw (told-is p (i .0, omega (arith, i .1))) (go (dec (samePart p (r .part))))
     where
       go : (samePart p (r .part) ≡ true) ⊎ (samePart p (r .part) ≡ false)
-          → healthOfKind p (cond (samePart p (r .part)) (wordNumber (r .word)) (healthOf (ring .health) .health p)) ≡ true
-      go (inl e) = rw (e, same-eq p (r .part) e) (word-of-kind (r .part) (r .word) (good .word))
+          → healthOfKind p (cond (samePart p (r .part)) (healthBy (r .word) (healthOf (ring .health) .health p)) (healthOf (ring .health) .health p))
+          ≡ true
+      go (inl e) = rw e (word-of-kind p (r .word) (healthOf (ring .health) .health p) (rw (same-eq p (r .part) e) (good .word)) (k .inside p i))
       go (inr e) = rw e (k .inside p i)
 
   told-above : (p : Part) → InRing largest p → n < number p → healthOf (told ring r .health) .health p ≡ 0
@@ -150,12 +163,22 @@ module _ {n : ℕ} {ring : Ring} (small : n ≤ largest) (k : Kinds n ring) (r :
   told-above p i l = told-is p i ∙ go (dec (samePart p (r .part)))
     where
       go : (samePart p (r .part) ≡ true) ⊎ (samePart p (r .part) ≡ false)
-          → cond (samePart p (r .part)) (wordNumber (r .word)) (healthOf (ring .health) .health p) ≡ 0
+          → cond (samePart p (r .part)) (healthBy (r .word) (healthOf (ring .health) .health p)) (healthOf (ring .health) .health p) ≡ 0
       go (inl e) = absurd (omega (arith, ap number (same-eq p (r .part) e), good .inside .1))
       go (inr e) = rw e (k .above p i l)
 
+  told-unlocked : (g : ℕ) → g < largest → n ≤ g → healthOf (told ring r .health) .locked g ≡ false
+  unfolding told reported
+  told-unlocked g l m = lock-places (reported (healthOf (ring .health)) r) g l ∙ go (dec (samePart (generator g) (r .part)))
+    where
+      go : (samePart (generator g) (r .part) ≡ true) ⊎ (samePart (generator g) (r .part) ≡ false)
+          → cond (samePart (generator g) (r .part)) (lockBy (r .word) (healthOf (ring .health) .locked g)) (healthOf (ring .health) .locked g)
+          ≡ false
+      go (inl e) = absurd (omega (arith, ap number (same-eq (generator g) (r .part) e), good .inside .1))
+      go (inr e) = rw e (k .unlocked g l m)
+
   told-kinds : Kinds n (told ring r)
-  told-kinds = record { inside = told-inside; above = told-above }
+  told-kinds = record { inside = told-inside; above = told-above; unlocked = told-unlocked }
 
 -- .. and several
 pub all-kinds : {n : ℕ} {ring : Ring} {rs : List Report} → n ≤ largest → Kinds n ring → AllGood n rs → Kinds n (toldAll ring rs)
@@ -200,18 +223,20 @@ served-stands : {n : ℕ} (state : RingState) {P Q : PlantState} {h : History} {
     → Stands n (switched Q (servedState state) h)
 served-stands {n} state {h = h} buffer small ready kinds cs loaded d q = record {
   steady =
-      transition-steady state h small ready (kinds .inside) (kinds .above) (rw (same-phases d (served-decodes small ready buffer)) at q);
+      transition-steady state h small ready (kinds .inside) (kinds .above) (kinds .unlocked)
+      (rw (same-phases d (served-decodes small ready buffer)) at q);
   loaded = anew;
 }
   where
     anew : Loaded n (servedState state .choices) (servedState state .state .load) h
     anew = figures-anew state (loaded-anew (calledFor (state .ring)) loaded)
 
--- every part of a blank ring is fit
+-- every part of a blank ring is fit and unlocked
 blank-kinds : (n : ℕ) → n ≤ largest → Kinds n (blankRing n)
 blank-kinds n small = record {
   inside = λ p i. rw (blank-fit n p (i .0, omega (arith, i .1))) (fit-of-kind p);
   above = λ p i l. blank-fit n p i;
+  unlocked = λ g l m. blank-unlocked n g l;
 }
 
 -- reports alter the ring, not its load
@@ -355,6 +380,7 @@ booking-steady s state h e = record {
   health = rw e (s .health);
   standing = rw e (s .standing);
   above = rw e (s .above);
+  unlocked-above = rw e (s .unlocked-above);
   kinds = s .kinds;
   planned = s .planned;
   shown = s .shown;

@@ -5,7 +5,7 @@ use mathlib.Core.Bool.{Bool, true, false, not, _&&_, _||_, Bool·beq}
 use mathlib.Core.Logic.{_⊎_, inl, inr}
 use mathlib.Core.List.{List, _++_, map, Memᴰ·append-left, List·Permᴰ, Permᴰ·symm}
 use mathlib.Core.Option.{some}
-use Prim.Native.Nat.{ℕ, _≤_, _<_}
+use Prim.Native.Nat.{ℕ, suc, _≤_, _<_}
 use native.Mathlib.Omega.{arith}
 use lib.Dec.{ltb}
 use borrow.Author.Tests.{le-ltb, lt-ltb}
@@ -13,18 +13,18 @@ use Rattle.model.specs.declared.Part.{Part}
 use Rattle.model.specs.declared.Part.the-variants.{Generator, GeneratorBreaker, BusBreaker}
 use Rattle.model.specs.declared.Ring.{Ring}
 use Rattle.model.specs.declared.RingState.{RingState}
-use Rattle.model.specs.Lists.{anyOf, _∈_}
+use Rattle.model.specs.Lists.{below, anyOf, _∈_}
 use Rattle.model.specs.Values.{number}
 use Rattle.model.specs.Plant.{PartHealth, PartCommands, smallest, largest, parts, fit, healthOfKind, InRing}
 use Rattle.model.specs.Choosing.{plan, commands, choices}
 use Rattle.model.specs.Sheet.{opening, closing, sheet, written}
 use Rattle.model.specs.Reports.{healthOf, commandsOf, planned, calledFor, withPlan}
-use Rattle.model.specs.Refusals.{sizeOutside, healthOutside, activeAbove, unplanned, badRing, nextSheet}
+use Rattle.model.specs.Refusals.{sizeOutside, healthOutside, activeAbove, lockedAbove, unplanned, badRing, nextSheet}
 use Rattle.model.specs.States.{StateReply, reckoned, servedState, servedBy}
 use Rattle.model.specs.Laws.Tests.{contra, dec, dec-lt}
-use Rattle.model.specs.Laws.Lists.{any-false, map-in}
+use Rattle.model.specs.Laws.Lists.{any-false, below-lt, map-in}
 use Rattle.model.specs.Laws.Parts.{parts-at, command-places}
-use Rattle.theory.specs.Theorems.Locality.{Agree, choices-ext, commands-ext, commanded-in-ring}
+use Rattle.theory.specs.Theorems.Locality.{Agree, SameHealth, choices-ext, commands-ext, commanded-in-ring}
 use Rattle.theory.specs.Theorems.Closing.{closing-at, closing-in, sheet-ext}
 use Rattle.theory.specs.Theorems.Interruption.{Fewer}
 use Rattle.demands.specs.Statements.Demand3.{
@@ -138,10 +138,10 @@ module _ (n : ℕ) (P : PlantState) (H : PartHealth) where
 
 -- ---- a transition
 
--- a ring of n, told its reports, and a plant whose parts have its health and its commands
+-- a ring of n, told its reports, and a plant whose parts have its health, its locks and its commands
 pub record Ready (n : ℕ) (ring : Ring) (P : PlantState) : Type 0 where
   pub size : ring .n ≡ n
-  pub health : Agree n (healthOf (ring .health)) (P .health)
+  pub health : SameHealth n (healthOf (ring .health)) (P .health)
   pub standing : Agree n (commandsOf (ring .commands)) (P .last)
 
 -- document 01's phases for a plant
@@ -184,9 +184,11 @@ served-replied state small ready buffer = record { chosen = served-choices small
 
 pub record Steady (n : ℕ) (W : World) : Type 0 where
   pub size : W .state .ring .n ≡ n
-  pub health : Agree n (healthOf (W .state .ring .health)) (W .plant .health)
+  pub health : SameHealth n (healthOf (W .state .ring .health)) (W .plant .health)
   pub standing : Agree n (commandsOf (W .state .ring .commands)) (W .plant .last)
-  pub above : (p : Part) → InRing largest p → n < number p → (healthOf (W .state .ring .health) .health p ≡ 0) × (commandsOf (W .state .ring .commands) p ≡ false)
+  pub above : (p : Part) → InRing largest p → n < number p
+      → (healthOf (W .state .ring .health) .health p ≡ 0) × (commandsOf (W .state .ring .commands) p ≡ false)
+  pub unlocked-above : (g : ℕ) → g < largest → n ≤ g → healthOf (W .state .ring .health) .locked g ≡ false
   pub kinds : (p : Part) → InRing n p → healthOfKind p (W .plant .health .health p) ≡ true
   pub planned : Agree n (W .plant .last) (commands n (W .plant .health))
   pub shown : W .shown ≡ choices n (W .plant .health)
@@ -203,15 +205,21 @@ not-commanded n H p l = go (dec (commands n H p))
 pub transition-steady : {n : ℕ} (state : RingState) {P Q : PlantState} (h : History) → n ≤ largest → Ready n (state .ring) P
     → ((p : Part) → InRing n p → healthOfKind p (healthOf (state .ring .health) .health p) ≡ true)
     → ((p : Part) → InRing largest p → n < number p → healthOf (state .ring .health) .health p ≡ 0)
+    → ((g : ℕ) → g < largest → n ≤ g → healthOf (state .ring .health) .locked g ≡ false)
     → Performed (phasesOf n P) P Q
     → Steady n (switched Q (servedState state) h)
 unfolding servedState reckoned withPlan planned phasesOf
-transition-steady {n} state {P} h small ready kinds above (performed {xs = xs} {ys = ys} ax ay) = record {
+transition-steady {n} state {P} h small ready kinds above unlocked (performed {xs = xs} {ys = ys} ax ay) = record {
   size = ready .size;
-  health = λ p r. ready .health p r ∙ kept p;
+  health =
+      record {
+        health = λ p r. ready .health .health p r ∙ kept p;
+        locked = λ g l. ready .health .locked g l ∙ ap (λ (K : PartHealth). K .locked g) (sym same-health);
+      };
   standing = λ p r. command-places (planned (state .ring)) p (wide p r) ∙ new p ∙ sym (both-done n P (P .health) xs ys dx dy p r);
   above = λ p r l. (above p r l, command-places (planned (state .ring)) p r ∙ new p ∙ not-commanded n (P .health) p l);
-  kinds = λ p r. rw (← ready .health p r ∙ kept p) (kinds p r);
+  unlocked-above = unlocked;
+  kinds = λ p r. rw (← ready .health .health p r ∙ kept p) (kinds p r);
   planned = λ p r. both-done n P (P .health) xs ys dx dy p r ∙ ap (λ K. commands n K p) (sym same-health);
   shown = served-choices small ready ∙ ap (choices n) (sym same-health);
 }
@@ -266,7 +274,7 @@ module _ {n : ℕ} {W : World} (s : Steady n W) where
   health-inside = any-false (λ p. not (healthOfKind p (H .health p))) (parts largest) (λ p m. go p (in-or-above p m))
     where
       go : (p : Part) → InRing n p ⊎ (InRing largest p × (n < number p)) → not (healthOfKind p (H .health p)) ≡ false
-      go p (inl r) = rw (s .health p r, s .kinds p r)
+      go p (inl r) = rw (s .health .health p r, s .kinds p r)
       go p (inr r) = rw (s .above p (r .0) (r .1) .0, fit-of-kind p)
 
   quiet-above : activeAbove n H C ≡ false
@@ -276,6 +284,14 @@ module _ {n : ℕ} {W : World} (s : Steady n W) where
       go : (p : Part) → InRing n p ⊎ (InRing largest p × (n < number p)) → ltb n (number p) && (not (fit (H .health p)) || C p) ≡ false
       go p (inl r) = rw (le-ltb n (number p) (r .1))
       go p (inr r) = rw (s .above p (r .0) (r .1) .0, s .above p (r .0) (r .1) .1, lt-ltb n (number p) (r .1))
+
+  unlocked : lockedAbove n H ≡ false
+  unfolding lockedAbove
+  unlocked = any-false (λ g. ltb n (suc g) && H .locked g) (below largest) (λ g m. go g (below-lt largest g m) (dec-lt n (suc g)))
+    where
+      go : (g : ℕ) → g < largest → (n < suc g) ⊎ (suc g ≤ n) → ltb n (suc g) && H .locked g ≡ false
+      go g l (inl m) = rw (lt-ltb n (suc g) m) (s .unlocked-above g l (omega arith))
+      go g l (inr m) = rw (le-ltb n (suc g) m)
 
   all-planned : unplanned n H C ≡ false
   unfolding unplanned
@@ -291,4 +307,4 @@ module _ {n : ℕ} {W : World} (s : Steady n W) where
 
   pub steady-ring : smallest ≤ n → n ≤ largest → badRing (W .state .ring) ≡ false
   unfolding badRing sizeOutside anyOf
-  steady-ring big small = rw (s .size, le-ltb n smallest big, le-ltb largest n small, health-inside, quiet-above, all-planned)
+  steady-ring big small = rw (s .size, le-ltb n smallest big, le-ltb largest n small, health-inside, quiet-above, unlocked, all-planned)

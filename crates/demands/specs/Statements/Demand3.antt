@@ -1,7 +1,7 @@
 -- The user's third demand as ONE statement about a controller, a served start and any list of calls after it.
 -- It knows nothing of how a controller comes to its answers. The plant is fed n, the words of served reports, whether each
 -- call was served, and the bytes of the lent buffers after served calls; never a record. So is what history knows of bookings.
--- Document 01, "The plant beside the list", and document 02, Notes 2 to 5. A stroke is an operation here, a halt an interruption, a wave a
+-- Document 01, "The plant beside the list", and document 02, Notes 2 to 7. A stroke is an operation here, a halt an interruption, a wave a
 -- phase.
 use mathlib.Core.Path.{_≡_}
 use mathlib.Core.Bool.{Bool, true, false, not, _&&_, cond}
@@ -14,7 +14,7 @@ use lib.ListN.{length, getD, take, drop}
 use Rattle.model.specs.declared.Part.{Part}
 use Rattle.model.specs.declared.Part.the-variants.{Generator, GeneratorBreaker, BusBreaker}
 use Rattle.model.specs.declared.Word.{Word}
-use Rattle.model.specs.declared.Word.the-variants.{Fit, StuckOff, StuckOpen, StuckClosed}
+use Rattle.model.specs.declared.Word.the-variants.{Fit, StuckOff, StuckOpen, StuckClosed, Lock, Unlock}
 use Rattle.model.specs.declared.Report.{Report}
 use Rattle.model.specs.declared.Scan.{Scan}
 use Rattle.model.specs.declared.Booking.{Booking}
@@ -30,7 +30,7 @@ use Rattle.model.specs.declared.Feed.{Feed}
 use Rattle.model.specs.declared.Feed.the-variants as feed
 use Rattle.model.specs.Lists.{keep, anyOf, sum, _∈_}
 use Rattle.model.specs.Values.{number, index, samePart, choiceSource, choiceAt}
-use Rattle.model.specs.Plant.{PartHealth, PartCommands, smallest, largest, busFeed, InRing, Reaches}
+use Rattle.model.specs.Plant.{PartHealth, PartCommands, smallest, largest, generator, busFeed, InRing, Reaches}
 use Rattle.model.specs.Choosing.{plan, commands, choices}
 use Rattle.model.specs.Sheet.{opening, closing, sheet}
 use Rattle.model.specs.Reports.{partNamed, healthOf, commandsOf, blankRing}
@@ -48,26 +48,46 @@ pub record Controller : Type 0 where
 
 -- ---- the plant
 
--- "It holds the health and the last order of each part of the ring"
+-- "It holds the health and the last order of each part of the ring"; "The ring record, like the plant of demand 3, carries the lock beside the
+-- health" (Note 7)
 pub record PlantState : Type 0 where
   pub health : PartHealth
   pub last : PartCommands
 
--- "at first all fit and off or open"
+-- "at first all fit and off or open", none locked
 abbrev pub freshPlant : PlantState
-freshPlant = record { health = λ p. 0; last = λ p. false }
+freshPlant = record { health = record { health = λ p. 0; locked = λ g. false }; last = λ p. false }
 
--- the health that a word brings about: said here anew, as `words` and `wordRefusal` are below, so that the plant does not take its rules from
--- what the controller is proved to follow; that they agree is proved
-abbrev pub effect : Word → ℕ
-effect Fit = 0
-effect StuckOff = 1
-effect StuckOpen = 2
-effect StuckClosed = 3
+-- what a word makes of its part's health: said here anew, as `words` and `wordRefusal` are below, so that the plant does not take its rules
+-- from what the controller is proved to follow; that they agree is proved
+abbrev pub effect : Word → ℕ → ℕ
+effect Fit h = 0
+effect StuckOff h = 1
+effect StuckOpen h = 2
+effect StuckClosed h = 3
+effect Lock h = h
+effect Unlock h = h
+
+-- .. and of a generator's lock: "Word 4 locks it and word 5 unlocks it"; "Neither lock nor health alters the other" (Note 7)
+abbrev pub lockEffect : Word → Bool → Bool
+lockEffect Fit l = l
+lockEffect StuckOff l = l
+lockEffect StuckOpen l = l
+lockEffect StuckClosed l = l
+lockEffect Lock l = true
+lockEffect Unlock l = false
 
 -- "A served step first does to its part what the word says."
 unfoldable pub afterWord : Report → PlantState → PlantState
-afterWord r P = record { health = λ p. cond (samePart p (r .part)) (effect (r .word)) (P .health .health p); last = P .last }
+afterWord r P =
+    record {
+      health =
+          record {
+            health = λ p. cond (samePart p (r .part)) (effect (r .word) (P .health .health p)) (P .health .health p);
+            locked = λ g. cond (samePart (generator g) (r .part)) (lockEffect (r .word) (P .health .locked g)) (P .health .locked g);
+          };
+      last = P .last;
+    }
 
 -- "the plant takes its reports' words in order before the first stroke": the words of a call, one after the other
 unfoldable pub afterWords : List Report → PlantState → PlantState
@@ -281,6 +301,8 @@ isStuckClosed Fit = false
 isStuckClosed StuckOff = false
 isStuckClosed StuckOpen = false
 isStuckClosed StuckClosed = true
+isStuckClosed Lock = false
+isStuckClosed Unlock = false
 
 -- "empty"
 abbrev pub isEmpty : {A : Type 0} → List A → Bool
@@ -322,12 +344,15 @@ pub record BusShown (n : ℕ) (W : World) (b : ℕ) : Type 0 where
   -- "a dark one by none"
   pub de-energized : shownAt W b ≡ choice.Dark → busFeed n (W .plant .health) (W .plant .last) b ≡ feed.Dark
 
--- "and the record gives the plant's health and orders"; parts above n are fit and off or open
+-- "and the record gives the plant's health and orders"; "the record gives the plant's locks too" (Note 7); parts above n are fit, unlocked and
+-- off or open
 pub record RecordGiven (n : ℕ) (W : World) : Type 0 where
   pub size : W .state .ring .n ≡ n
   pub health : (p : Part) → InRing n p → healthOf (W .state .ring .health) .health p ≡ W .plant .health .health p
+  pub locked : (g : ℕ) → g < n → healthOf (W .state .ring .health) .locked g ≡ W .plant .health .locked g
   pub standing : (p : Part) → InRing n p → commandsOf (W .state .ring .commands) p ≡ W .plant .last p
   pub health-above : (p : Part) → InRing largest p → n < number p → healthOf (W .state .ring .health) .health p ≡ 0
+  pub locked-above : (g : ℕ) → g < largest → n ≤ g → healthOf (W .state .ring .health) .locked g ≡ false
   pub commands-above : (p : Part) → InRing largest p → n < number p → commandsOf (W .state .ring .commands) p ≡ false
 
 -- what the plant says of a booking's bus
@@ -373,20 +398,27 @@ pub record AsChosen (n : ℕ) (P : PlantState) (reply : StateReply) : Type 0 whe
   pub first-is : phases .first ≡ map (operation false) (opening n (P .last) (commands n (P .health)))
   pub second-is : phases .second ≡ map (operation true) (closing n (P .last) (plan n (P .health)))
 
--- refusal 6 by part and word, 0 where it does not meet them; "word 0 makes a generator fit again" (document 02, Note 3)
+-- refusal 6 by part and word, 0 where it does not meet them; "word 0 makes a generator fit again" (document 02, Note 3); words 4 and 5 "are for
+-- generators, and refusal 6 now meets words above 5 and these two for a breaker" (Note 7)
 unfoldable pub wordRefusal : Part → Word → ℕ
 wordRefusal (Generator k) Fit = 0
 wordRefusal (Generator k) StuckOff = 0
 wordRefusal (Generator k) StuckOpen = 6
 wordRefusal (Generator k) StuckClosed = 6
+wordRefusal (Generator k) Lock = 0
+wordRefusal (Generator k) Unlock = 0
 wordRefusal (GeneratorBreaker k) Fit = 0
 wordRefusal (GeneratorBreaker k) StuckOff = 6
 wordRefusal (GeneratorBreaker k) StuckOpen = 0
 wordRefusal (GeneratorBreaker k) StuckClosed = 0
+wordRefusal (GeneratorBreaker k) Lock = 6
+wordRefusal (GeneratorBreaker k) Unlock = 6
 wordRefusal (BusBreaker k) Fit = 0
 wordRefusal (BusBreaker k) StuckOff = 6
 wordRefusal (BusBreaker k) StuckOpen = 0
 wordRefusal (BusBreaker k) StuckClosed = 0
+wordRefusal (BusBreaker k) Lock = 6
+wordRefusal (BusBreaker k) Unlock = 6
 
 -- how many bytes the sheet for a plant has
 abbrev pub sheetFor : ℕ → PlantState → ℕ

@@ -26,6 +26,7 @@ pub record Arrays (state : RingState) : Type 0 where
   pub generators : length (state .ring .health .generators) ≡ largest
   pub generator-breakers : length (state .ring .health .«generator_breakers») ≡ largest
   pub bus-breakers : length (state .ring .health .«bus_breakers») ≡ largest
+  pub locked : length (state .ring .health .locked) ≡ largest
   pub generator-commands : length (state .ring .commands .generators) ≡ largest
   pub generator-breaker-commands : length (state .ring .commands .«generator_breakers») ≡ largest
   pub bus-breaker-commands : length (state .ring .commands .«bus_breakers») ≡ largest

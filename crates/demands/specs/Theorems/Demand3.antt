@@ -11,7 +11,7 @@ use lib.ListN.{getD, List·getD-eq-default}
 use borrow.Author.Tests.{ne-eqb}
 use Rattle.model.specs.declared.Part.{Part}
 use Rattle.model.specs.declared.Word.{Word}
-use Rattle.model.specs.declared.Word.the-variants.{Fit, StuckOff, StuckOpen, StuckClosed}
+use Rattle.model.specs.declared.Word.the-variants.{Fit, StuckOff, StuckOpen, StuckClosed, Lock, Unlock}
 use Rattle.model.specs.declared.Report.{Report}
 use Rattle.model.specs.declared.Booking.{Booking}
 use Rattle.model.specs.declared.Choice.the-variants as choice
@@ -114,7 +114,7 @@ module _ {n : ℕ} {W : World} (small : n ≤ largest) (s : Steady n W) (b : ℕ
   shown-is = rw (s .shown) (choices-at n K b (record { choice = choice.Dark }) hb small)
 
   fed-is : busFeed n K (W .plant .last) b ≡ busFeed n K (commands n K) b
-  fed-is = feed-ext n K K (W .plant .last) (commands n K) (λ p i. refl) (s .planned) b hb
+  fed-is = feed-ext n K K (W .plant .last) (commands n K) (record { health = λ p i. refl; locked = λ g l. refl }) (s .planned) b hb
 
   none-dark : plan n K b ≡ none → choiceOf n (plan n K b) ≡ choice.Dark
   unfolding choiceOf
@@ -138,13 +138,15 @@ module _ {n : ℕ} {W : World} (small : n ≤ largest) (s : Steady n W) (b : ℕ
       energized none e ne = absurd (ne (shown-is ∙ none-dark e))
       energized (some w) e ne = rw (shown-is, e, choice-source n w) (energized-fed n K b w hb e)
 
--- the record gives the plant's health and commands
+-- the record gives the plant's health, locks and commands
 as-given : {n : ℕ} {W : World} → Steady n W → RecordGiven n W
 as-given s = record {
   size = s .size;
-  health = s .health;
+  health = s .health .health;
+  locked = s .health .locked;
   standing = s .standing;
   health-above = λ p i l. s .above p i l .0;
+  locked-above = s .unlocked-above;
   commands-above = λ p i l. s .above p i l .1;
 }
 
@@ -244,19 +246,22 @@ unfolding afterWords afterWord
 words-last [] P = refl
 words-last (r ∷ rs) P = words-last rs (afterWord r P)
 
-pub not-closed : (w : Word) → isStuckClosed w ≡ false → stuckClosed (effect w) ≡ true → ⊥
-not-closed Fit e c = contra c refl
-not-closed StuckOff e c = contra c refl
-not-closed StuckOpen e c = contra c refl
-not-closed StuckClosed e c = contra refl e
+pub not-closed : (w : Word) (h : ℕ) → isStuckClosed w ≡ false → stuckClosed (effect w h) ≡ true → stuckClosed h ≡ true
+not-closed Fit h e c = contra c refl
+not-closed StuckOff h e c = contra c refl
+not-closed StuckOpen h e c = contra c refl
+not-closed StuckClosed h e c = contra refl e
+not-closed Lock h e c = c
+not-closed Unlock h e c = c
 
 word-none : (r : Report) (P : PlantState) (p : Part) → isStuckClosed (r .word) ≡ false → stuckClosed (afterWord r P .health .health p) ≡ true
     → stuckClosed (P .health .health p) ≡ true
 unfolding afterWord
 word-none r P p e = go (samePart p (r .part))
   where
-    go : (t : Bool) → stuckClosed (cond t (effect (r .word)) (P .health .health p)) ≡ true → stuckClosed (P .health .health p) ≡ true
-    go true c = absurd (not-closed (r .word) e c)
+    go : (t : Bool) → stuckClosed (cond t (effect (r .word) (P .health .health p)) (P .health .health p)) ≡ true
+        → stuckClosed (P .health .health p) ≡ true
+    go true c = not-closed (r .word) (P .health .health p) e c
     go false c = c
 
 words-none : (rs : List Report) (P : PlantState) (p : Part) → anyOf (λ r. isStuckClosed (r .word)) rs ≡ false

@@ -2,7 +2,7 @@
 -- bookings and cancellations make it.
 use mathlib.Core.Path.{_≡_, refl, sym, _∙_, ap}
 use mathlib.Core.Bool.{Bool, true, false, not, _&&_, _||_, cond, Bool·beq}
-use mathlib.Core.Logic.{_⊎_, inl, inr, _↔_}
+use mathlib.Core.Logic.{_⊎_, inl, inr, _↔_, _≢_}
 use mathlib.Core.List.{List, [], _∷_, _++_, append-assoc, append-nil, List·Memᴰ·head, List·Memᴰ·tail}
 use mathlib.Core.Option.{some}
 use Prim.Native.Nat.{ℕ, zero, suc, _-_, _≤_, _<_}
@@ -14,7 +14,7 @@ use borrow.Author.Tests.{lt-ltb, eqb-true, eq-eqb, ne-eqb, not-false}
 use Rattle.model.specs.declared.Part.{Part}
 use Rattle.model.specs.declared.Part.the-variants.{Generator, GeneratorBreaker, BusBreaker}
 use Rattle.model.specs.declared.Word.{Word}
-use Rattle.model.specs.declared.Word.the-variants.{Fit, StuckOff, StuckOpen, StuckClosed}
+use Rattle.model.specs.declared.Word.the-variants.{Fit, StuckOff, StuckOpen, StuckClosed, Lock}
 use Rattle.model.specs.declared.Report.{Report}
 use Rattle.model.specs.declared.Scan.{Scan}
 use Rattle.model.specs.declared.Booking.{Booking}
@@ -23,7 +23,7 @@ use Rattle.model.specs.declared.Ring.{Ring}
 use Rattle.model.specs.declared.RingState.{RingState}
 use Rattle.model.specs.declared.BusChoice.{BusChoice}
 use Rattle.model.specs.Lists.{anyOf, _∈_}
-use Rattle.model.specs.Values.{number, samePart, wordNumber}
+use Rattle.model.specs.Values.{number, index, samePart}
 use Rattle.model.specs.Plant.{
   PartHealth,
   PartCommands,
@@ -43,6 +43,8 @@ use Rattle.model.specs.Plant.{
 use Rattle.model.specs.Choosing.{commands}
 use Rattle.model.specs.Reports.{
   places,
+  healthBy,
+  lockBy,
   reported,
   allFit,
   healthOf,
@@ -55,7 +57,7 @@ use Rattle.model.specs.Reports.{
   calledFor,
   withPlan,
 }
-use Rattle.model.specs.Refusals.{firstMet, sizeOutside, healthOutside, activeAbove, unplanned, badRing, startRefusal, stepRefusal}
+use Rattle.model.specs.Refusals.{firstMet, sizeOutside, healthOutside, activeAbove, lockedAbove, unplanned, badRing, startRefusal, stepRefusal}
 use Rattle.model.specs.Answers.{refusedAnswer, refusedReply, servedAnswer, servedReply, replyBy, startReply, stepReply}
 use Rattle.model.specs.Scans.{scanReports, toldAll, scanRefusal, scanReply}
 use Rattle.model.specs.Bookings.{
@@ -89,12 +91,12 @@ use Rattle.model.specs.States.{
   bookAnswer,
   cancelAnswer,
 }
-use Rattle.model.specs.Laws.Tests.{contra, dec, dec-lt, or-none, or-cases}
-use Rattle.model.specs.Laws.Lists.{any-in, any-none}
-use Rattle.model.specs.Laws.Parts.{at-index, parts-in, parts-at, same-eq, same-refl, is-places, places-ext, health-places}
+use Rattle.model.specs.Laws.Tests.{contra, dec, dec-lt, dec-eq, or-none, or-cases}
+use Rattle.model.specs.Laws.Lists.{any-in, any-none, below-in}
+use Rattle.model.specs.Laws.Parts.{at-index, parts-in, parts-at, same-eq, same-refl, is-places, places-ext, health-places, lock-places}
 use Rattle.model.specs.Laws.Refusals.{good-size}
 use Rattle.model.specs.Laws.Bookings.{Bookable, AllBookable, unloaded-bad}
-use Rattle.theory.specs.Theorems.Locality.{Agree, commands-ext, commands-held}
+use Rattle.theory.specs.Theorems.Locality.{SameHealth, commands-ext, commands-held}
 use Rattle.theory.specs.Theorems.Closing.{sheet-fits}
 use Rattle.demands.specs.Statements.Demand3.{
   PlantState,
@@ -220,41 +222,46 @@ made-good m = let t = made-reached m in rw (t .5) at (stands-good (t .2) (t .3) 
 
 -- ---- the records that start and steps make, by their health
 
--- the record of n buses with a health and the commands that it calls for
+-- the record of n buses with a health, its locks and the commands that they call for
 ringFor : ℕ → PartHealth → Ring
 ringFor n H = record { n = n; health = healthPlaces H; commands = commandPlaces (commands n H) }
 
-ring-ext : (n : ℕ) (H K : PartHealth) → n ≤ largest → Agree largest H K → ringFor n H ≡ ringFor n K
+ring-ext : (n : ℕ) (H K : PartHealth) → n ≤ largest → SameHealth largest H K → ringFor n H ≡ ringFor n K
 unfolding ringFor healthPlaces commandPlaces
 ring-ext n H K small same = λ i. record {
   n = n;
   health = record {
-    generators = places-ext (λ j. H .health (generator j)) (λ j. K .health (generator j)) (λ j h. same (generator j) (at-index largest j h)) i;
+    generators =
+        places-ext (λ j. H .health (generator j)) (λ j. K .health (generator j)) (λ j h. same .health (generator j) (at-index largest j h)) i;
     «generator_breakers» =
-        places-ext (λ j. H .health (generatorBreaker j)) (λ j. K .health (generatorBreaker j)) (λ j h. same (generatorBreaker j) (at-index largest j h)) i;
-    «bus_breakers» = places-ext (λ j. H .health (busBreaker j)) (λ j. K .health (busBreaker j)) (λ j h. same (busBreaker j) (at-index largest j h)) i;
+        places-ext (λ j. H .health (generatorBreaker j)) (λ j. K .health (generatorBreaker j))
+        (λ j h. same .health (generatorBreaker j) (at-index largest j h)) i;
+    «bus_breakers» =
+        places-ext (λ j. H .health (busBreaker j)) (λ j. K .health (busBreaker j))
+        (λ j h. same .health (busBreaker j) (at-index largest j h)) i;
+    locked = places-ext (H .locked) (K .locked) (same .locked) i;
   };
   commands = commandPlaces (λ p. commands-ext n H K inside p i);
 }
   where
-    inside : Agree n H K
-    inside p r = same p (r .0, omega (arith, r .1))
+    inside : SameHealth n H K
+    inside = record { health = λ p r. same .health p (r .0, omega (arith, r .1)); locked = λ g l. same .locked g (omega arith) }
 
 -- the arrays of a record are those of a health that it holds
-pub health-is : (state : RingState) → Arrays state → (H : PartHealth)
-    → ((p : Part) → InRing largest p → healthOf (state .ring .health) .health p ≡ H .health p)
+pub health-is : (state : RingState) → Arrays state → (H : PartHealth) → SameHealth largest (healthOf (state .ring .health)) H
     → state .ring .health ≡ healthPlaces H
 unfolding healthPlaces healthOf
 health-is state arrays H same = λ i. record {
   generators =
       is-places (λ j. H .health (generator j)) (state .ring .health .generators) 0 (arrays .generators)
-      (λ j l. same (generator j) (at-index largest j l)) i;
+      (λ j l. same .health (generator j) (at-index largest j l)) i;
   «generator_breakers» =
       is-places (λ j. H .health (generatorBreaker j)) (state .ring .health .«generator_breakers») 0 (arrays .generator-breakers)
-      (λ j l. same (generatorBreaker j) (at-index largest j l)) i;
+      (λ j l. same .health (generatorBreaker j) (at-index largest j l)) i;
   «bus_breakers» =
       is-places (λ j. H .health (busBreaker j)) (state .ring .health .«bus_breakers») 0 (arrays .bus-breakers)
-      (λ j l. same (busBreaker j) (at-index largest j l)) i;
+      (λ j l. same .health (busBreaker j) (at-index largest j l)) i;
+  locked = is-places (H .locked) (state .ring .health .locked) false (arrays .locked) (same .locked) i;
 }
 
 -- a good report and full room: served
@@ -274,30 +281,32 @@ unfolding servedState toldState toldAll
 stepped-state {W = W} small s good-record r good =
     ap (λ (x : StateReply). x .answer .state) (call-served (W .state) (step r fullRoom) (served-step small s good-record r good))
 
--- a word for a part's health
-Spoken : Part → ℕ → Type 0
-Spoken p h = (w : Word) × (wordNumber w ≡ h) × (wordRefusal p w ≡ 0)
+-- a word for a part's health: it alters no lock
+pub record Spoken (p : Part) (h : ℕ) : Type 0 where
+  pub word : Word
+  pub health : (x : ℕ) → healthBy word x ≡ h
+  pub lock : (l : Bool) → lockBy word l ≡ l
+  pub served : wordRefusal p word ≡ 0
 
 breaker-word : (p : Part) (h : ℕ) → wordRefusal p Fit ≡ 0 → wordRefusal p StuckOpen ≡ 0 → wordRefusal p StuckClosed ≡ 0
     → fit h || stuckOpen h || stuckClosed h ≡ true → Spoken p h
-unfolding Spoken
 breaker-word p h f o c e = go (or-cases (fit h || stuckOpen h) (stuckClosed h) e)
   where
     early : (fit h ≡ true) ⊎ (stuckOpen h ≡ true) → Spoken p h
-    early (inl q) = (Fit, sym (eqb-true h 0 q), f)
-    early (inr q) = (StuckOpen, sym (eqb-true h 2 q), o)
+    early (inl q) = record { word = Fit; health = λ x. sym (eqb-true h 0 q); lock = λ l. refl; served = f }
+    early (inr q) = record { word = StuckOpen; health = λ x. sym (eqb-true h 2 q); lock = λ l. refl; served = o }
 
     go : (fit h || stuckOpen h ≡ true) ⊎ (stuckClosed h ≡ true) → Spoken p h
     go (inl q) = early (or-cases (fit h) (stuckOpen h) q)
-    go (inr q) = (StuckClosed, sym (eqb-true h 3 q), c)
+    go (inr q) = record { word = StuckClosed; health = λ x. sym (eqb-true h 3 q); lock = λ l. refl; served = c }
 
 word-for : (p : Part) (h : ℕ) → healthOfKind p h ≡ true → Spoken p h
-unfolding healthOfKind wordRefusal Spoken
+unfolding healthOfKind wordRefusal
 word-for (Generator k) h e = go (or-cases (fit h) (stuckOff h) e)
   where
     go : (fit h ≡ true) ⊎ (stuckOff h ≡ true) → Spoken (Generator k) h
-    go (inl q) = (Fit, sym (eqb-true h 0 q), refl)
-    go (inr q) = (StuckOff, sym (eqb-true h 1 q), refl)
+    go (inl q) = record { word = Fit; health = λ x. sym (eqb-true h 0 q); lock = λ l. refl; served = refl }
+    go (inr q) = record { word = StuckOff; health = λ x. sym (eqb-true h 1 q); lock = λ l. refl; served = refl }
 word-for (GeneratorBreaker k) h e = breaker-word (GeneratorBreaker k) h refl refl refl e
 word-for (BusBreaker k) h e = breaker-word (BusBreaker k) h refl refl refl e
 
@@ -327,50 +336,115 @@ start-made n big small =
     rw (ap (λ (x : StateReply). x .answer .state) (start-served n fullRoom begun), commands-held n small allFit) at
     (started n fullRoom big small begun)
 
-module _ (n : ℕ) (big : smallest ≤ n) (small : n ≤ largest) (H : PartHealth)
-    (kinds : (p : Part) → InRing n p → healthOfKind p (H .health p) ≡ true) where
-  -- the health H of the parts ps, all others fit
-  partial : List Part → PartHealth
-  partial ps q = cond (anyOf (samePart q) ps) (H .health q) 0
-
+module _ (n : ℕ) (big : smallest ≤ n) (small : n ≤ largest) where
   -- one report more
-  add : (p : Part) (ps : List Part) (w : Word) → wordNumber w ≡ H .health p
-      → withPlan (told (ringFor n (partial ps)) (record { part = p; word = w })) ≡ ringFor n (partial (p ∷ ps))
-  unfolding withPlan told planned ringFor reported partial anyOf
-  add p ps w e =
-      rw (commands-held n small (reported (healthOf (healthPlaces (partial ps))) (record { part = p; word = w })))
-      (ring-ext n (reported (healthOf (healthPlaces (partial ps))) (record { part = p; word = w })) (partial (p ∷ ps)) small
-      (λ q i. go q i (dec (samePart q p))))
-    where
-      go : (q : Part) → InRing largest q → (samePart q p ≡ true) ⊎ (samePart q p ≡ false)
-          → cond (samePart q p) (wordNumber w) (healthOf (healthPlaces (partial ps)) .health q) ≡ cond (samePart q p || anyOf (samePart q) ps)
-          (H .health q) 0
-      go q i (inl t) = rw t (e ∙ ap H (sym (same-eq q p t)))
-      go q i (inr t) = rw t (health-places (partial ps) q i)
+  told-for : (J : PartHealth) (r : Report) → withPlan (told (ringFor n J) r) ≡ ringFor n (reported J r)
+  unfolding withPlan told planned ringFor reported
+  told-for J r =
+      rw (commands-held n small (reported (healthOf (healthPlaces J)) r))
+      (ring-ext n (reported (healthOf (healthPlaces J)) r) (reported J r) small
+      (record { health = λ q i. rw (health-places J q i); locked = λ g l. rw (lock-places J g l) }))
 
-  step-made : (p : Part) (ps : List Part) → InRing n p → (w : Word) → wordNumber w ≡ H .health p → wordRefusal p w ≡ 0
-      → Made (stateFor n (partial ps) [])
-      → Made (stateFor n (partial (p ∷ ps)) [])
+  step-made : (J K : PartHealth) (r : Report) → Good n r → SameHealth largest (reported J r) K → Made (stateFor n J []) → Made (stateFor n K [])
   unfolding Reached ringFor stateFor reckoned withFigures
-  step-made p ps i w e f m = go (made-reached m)
+  step-made J K r good same m = go (made-reached m)
     where
-      r : Report
-      r = record { part = p; word = w }
-
-      go : Reached (stateFor n (partial ps) []) → Made (stateFor n (partial (p ∷ ps)) [])
+      go : Reached (stateFor n J []) → Made (stateFor n K [])
       go t =
           let size : t .0 ≡ n = sym (t .4 .steady .size) ∙ ap (λ (x : RingState). x .ring .n) (t .5) in
-          let z = stepped-state (t .3) (t .4 .steady) (stands-good (t .2) (t .3) (t .4)) r
-          (record { inside = (i .0, omega (arith, i .1)); word = f }) in
-          rw (rw (t .5) at z ∙ ap (λ ring. reckoned ring (loadOf [])) (add p ps w e)) at (stepped r fullRoom m)
+          let z = stepped-state (t .3) (t .4 .steady) (stands-good (t .2) (t .3) (t .4)) r (rw size good) in
+          rw (rw (t .5) at z ∙ ap (λ ring. reckoned ring (loadOf [])) (told-for J r ∙ ring-ext n (reported J r) K small same)) at
+          (stepped r fullRoom m)
 
-  makes : (ps : List Part) → ((p : Part) → p ∈ ps → InRing n p) → Made (stateFor n (partial ps) [])
-  unfolding partial anyOf Spoken stateFor
-  makes [] all = rw (ring-ext n allFit (partial []) small (λ q i. refl)) at (start-made n big small)
-  makes (p ∷ ps) all =
-      let i = all p (List·Memᴰ·head refl) in
-      let w = word-for p (H .health p) (kinds p i) in
-      step-made p ps i (w .0) (w .1) (w .2) (makes ps (λ q m. all q (List·Memᴰ·tail m)))
+  module _ (H : PartHealth) (kinds : (p : Part) → InRing n p → healthOfKind p (H .health p) ≡ true) where
+    -- the health H of the parts ps, all others fit, none locked
+    partial : List Part → PartHealth
+    partial ps = record { health = λ q. cond (anyOf (samePart q) ps) (H .health q) 0; locked = λ g. false }
+
+    makes : (ps : List Part) → ((p : Part) → p ∈ ps → InRing n p) → Made (stateFor n (partial ps) [])
+    unfolding partial anyOf stateFor reported
+    makes [] all =
+        rw (ring-ext n allFit (partial []) small (record { health = λ q i. refl; locked = λ g l. refl })) at (start-made n big small)
+    makes (p ∷ ps) all =
+        step-made (partial ps) (partial (p ∷ ps)) (record { part = p; word = w .word }) (record { inside = i; word = w .served })
+        (record { health = λ q j. go q (dec (samePart q p)); locked = λ g l. unlocked (samePart (generator g) p) })
+        (makes ps (λ q m. all q (List·Memᴰ·tail m)))
+      where
+        i : InRing n p
+        i = all p (List·Memᴰ·head refl)
+
+        w : Spoken p (H .health p)
+        w = word-for p (H .health p) (kinds p i)
+
+        go : (q : Part) → (samePart q p ≡ true) ⊎ (samePart q p ≡ false)
+            → cond (samePart q p) (healthBy (w .word) (partial ps .health q)) (partial ps .health q)
+            ≡ cond (samePart q p || anyOf (samePart q) ps) (H .health q) 0
+        go q (inl t) = rw t (w .health (partial ps .health q) ∙ ap (H .health) (sym (same-eq q p t)))
+        go q (inr t) = rw t
+
+        unlocked : (t : Bool) → cond t (lockBy (w .word) false) false ≡ false
+        unlocked true = w .lock false
+        unlocked false = refl
+
+    -- .. and its locks among the parts ps
+    lockedOf : List Part → PartHealth
+    lockedOf ps = record { health = partial (parts n) .health; locked = λ g. anyOf (samePart (generator g)) ps && H .locked g }
+
+    -- a generator more that is not locked
+    lock-none : (p : Part) (ps : List Part) → ((g : ℕ) → samePart (generator g) p ≡ true → H .locked g ≡ false)
+        → SameHealth largest (lockedOf ps) (lockedOf (p ∷ ps))
+    unfolding lockedOf anyOf
+    lock-none p ps none = record { health = λ q j. refl; locked = λ g l. go g (dec (samePart (generator g) p)) }
+      where
+        either : (t u : Bool) → t && false ≡ u && false
+        either true true = refl
+        either true false = refl
+        either false true = refl
+        either false false = refl
+
+        go : (g : ℕ) → (samePart (generator g) p ≡ true) ⊎ (samePart (generator g) p ≡ false)
+            → anyOf (samePart (generator g)) ps && H .locked g ≡ (samePart (generator g) p || anyOf (samePart (generator g)) ps) && H .locked g
+        go g (inl t) = rw (none g t) (either (anyOf (samePart (generator g)) ps) (samePart (generator g) p || anyOf (samePart (generator g)) ps))
+        go g (inr t) = rw t
+
+    -- .. and one that is
+    lock-more : (g : ℕ) (ps : List Part) → H .locked g ≡ true
+        → SameHealth largest (reported (lockedOf ps) (record { part = generator g; word = Lock })) (lockedOf (generator g ∷ ps))
+    unfolding lockedOf anyOf reported samePart
+    lock-more g ps e = record { health = λ q j. same (samePart q (generator g)) (partial (parts n) .health q); locked = λ h l. go h (dec-eq (suc h) (suc g)) }
+      where
+        same : (t : Bool) (x : ℕ) → cond t x x ≡ x
+        same true x = refl
+        same false x = refl
+
+        go : (h : ℕ) → (suc h ≡ suc g) ⊎ (suc h ≢ suc g)
+            → cond (samePart (generator h) (generator g)) true (anyOf (samePart (generator h)) ps && H .locked h)
+            ≡ (samePart (generator h) (generator g) || anyOf (samePart (generator h)) ps) && H .locked h
+        go h (inl t) = let z : H .locked h ≡ true = ap (λ k. H .locked (index k)) t ∙ e in rw (eq-eqb (suc h) (suc g) t, z)
+        go h (inr t) = rw (ne-eqb (suc h) (suc g) t)
+
+    locks : (ps : List Part) → ((p : Part) → p ∈ ps → InRing n p) → Made (stateFor n (lockedOf ps) [])
+    unfolding partial lockedOf anyOf stateFor wordRefusal samePart
+    locks [] all =
+        rw (ring-ext n (partial (parts n)) (lockedOf []) small (record { health = λ q j. refl; locked = λ g l. refl })) at
+        (makes (parts n) (parts-at n))
+    locks (p ∷ ps) all = one p (all p (List·Memᴰ·head refl)) (locks ps (λ q m. all q (List·Memᴰ·tail m)))
+      where
+        kept : (q : Part) → ((g : ℕ) → samePart (generator g) q ≡ true → H .locked g ≡ false) → Made (stateFor n (lockedOf ps) [])
+            → Made (stateFor n (lockedOf (q ∷ ps)) [])
+        kept q none m = rw (ring-ext n (lockedOf ps) (lockedOf (q ∷ ps)) small (lock-none q ps none)) at m
+
+        one : (q : Part) → InRing n q → Made (stateFor n (lockedOf ps) []) → Made (stateFor n (lockedOf (q ∷ ps)) [])
+        one (Generator zero) i m = absurd (omega (arith, i .0))
+        one (Generator (suc g)) i m = go (dec (H .locked g))
+          where
+            go : (H .locked g ≡ true) ⊎ (H .locked g ≡ false) → Made (stateFor n (lockedOf (generator g ∷ ps)) [])
+            go (inl e) =
+                step-made (lockedOf ps) (lockedOf (generator g ∷ ps)) (record { part = generator g; word = Lock })
+                (record { inside = i; word = refl }) (lock-more g ps e) m
+            go (inr e) = kept (generator g) (λ h t. ap (λ k. H .locked (index (number k))) (same-eq (generator h) (generator g) t) ∙ e) m
+        one (GeneratorBreaker k) i m = kept (GeneratorBreaker k) (λ g t. contra t refl) m
+        one (BusBreaker k) i m = kept (BusBreaker k) (λ g t. contra t refl) m
 
 -- ---- .. and by their bookings
 
@@ -474,14 +548,16 @@ module _ (ring : Ring) (good : badRing ring ≡ false) where
   abbrev N : ℕ
   N = ring .n
 
-  -- none of the four conditions is met
-  conditions : (sizeOutside N ≡ false) × (healthOutside H (parts largest) ≡ false) × (activeAbove N H C ≡ false) × (unplanned N H C ≡ false)
+  -- none of the five conditions is met
+  conditions : (sizeOutside N ≡ false) × (healthOutside H (parts largest) ≡ false) × (activeAbove N H C ≡ false) × (lockedAbove N H ≡ false)
+      × (unplanned N H C ≡ false)
   unfolding badRing anyOf
   conditions =
       let a = or-none (sizeOutside N) _ good in
       let b = or-none (healthOutside H (parts largest)) _ (a .1) in
       let c = or-none (activeAbove N H C) _ (b .1) in
-      (a .0, b .0, c .0, or-none (unplanned N H C) false (c .1) .0)
+      let d = or-none (lockedAbove N H) _ (c .1) in
+      (a .0, b .0, c .0, d .0, or-none (unplanned N H C) false (d .1) .0)
 
   of-kind : (p : Part) → InRing N p → healthOfKind p (H .health p) ≡ true
   unfolding healthOutside
@@ -496,10 +572,15 @@ module _ (ring : Ring) (good : badRing ring ≡ false) where
       let u : not (fit (H .health p)) || C p ≡ false = rw (lt-ltb N (number p) l) at t in
       eqb-true (H .health p) 0 (not-false (fit (H .health p)) (or-none (not (fit (H .health p))) (C p) u .0))
 
+  above-unlocked : (g : ℕ) → g < largest → N ≤ g → H .locked g ≡ false
+  unfolding lockedAbove
+  above-unlocked g l m =
+      rw (lt-ltb N (suc g) (omega arith)) at (any-none (λ h. ltb N (suc h) && H .locked h) (conditions .3) (below-in largest g l))
+
   pub as-planned : (p : Part) → InRing largest p → C p ≡ commands N H p
   unfolding unplanned
   as-planned p i =
-      beq-eq (C p) (commands N H p) (any-none (λ q. not (Bool·beq (C q) (commands N H q))) (conditions .3) (parts-in largest p i))
+      beq-eq (C p) (commands N H p) (any-none (λ q. not (Bool·beq (C q) (commands N H q))) (conditions .4) (parts-in largest p i))
 
   above-off : (p : Part) → InRing largest p → N < number p → C p ≡ false
   above-off p i l = as-planned p i ∙ not-commanded N H p l
@@ -524,9 +605,10 @@ module _ (state : RingState) (good : badRecord state ≡ false) where
   pub good-steady : Steady (R .n) (standing state)
   good-steady = record {
     size = refl;
-    health = λ p i. refl;
+    health = record { health = λ p i. refl; locked = λ g l. refl };
     standing = λ p i. refl;
     above = λ p i l. (above-fit R right p i l, above-off R right p i l);
+    unlocked-above = above-unlocked R right;
     kinds = of-kind R right;
     planned = λ p i. as-planned R right p (i .0, omega (arith, i .1, good-size R right .1));
     shown = refl;
@@ -598,7 +680,9 @@ told-steady state good rs all =
     let s = good-steady state good in
     let ready = told-ready state small s rs in
     let kinds = told-kinds-state state rs (all-kinds small (steady-kinds s) all) in
-    (_, transition-steady (toldState state rs) noHistory small ready (kinds .inside) (kinds .above) (performed (sheet-order _) (sheet-order _)))
+    (_,
+    transition-steady (toldState state rs) noHistory small ready (kinds .inside) (kinds .above) (kinds .unlocked)
+    (performed (sheet-order _) (sheet-order _)))
 
 -- a good record told good reports, and planned
 told-good : (state : RingState) → badRecord state ≡ false → (rs : List Report) → AllGood (state .ring .n) rs
@@ -670,27 +754,42 @@ module _ (state : RingState) (arrays : Arrays state) (good : badRecord state ≡
   abbrev whole : badRing (state .ring) ≡ false
   whole = right state good
 
-  -- the health of all parts of the ring is the record's
+  -- the health of all parts of the ring and its locks are the record's
   abbrev K : PartHealth
   K =
-      partial (ring .n) ((good-size ring whole) .0) ((good-size ring whole) .1) (healthOf (ring .health)) (of-kind ring whole)
+      lockedOf (ring .n) (good-size ring whole .0) (good-size ring whole .1) (healthOf (ring .health)) (of-kind ring whole)
       (parts (ring .n))
 
-  same-health : (p : Part) → InRing largest p → (healthOf (ring .health)) p ≡ K .health p
-  unfolding partial
-  same-health p i = go (dec-lt (ring .n) (number p)) (dec (anyOf (samePart p) (parts (ring .n))))
+  same-health : SameHealth largest (healthOf (ring .health)) K
+  unfolding partial lockedOf
+  same-health = record {
+    health = λ p i. go p i (dec-lt (ring .n) (number p)) (dec (anyOf (samePart p) (parts (ring .n))));
+    locked = λ g l. lock g l (dec-lt g (ring .n)) (dec (anyOf (samePart (generator g)) (parts (ring .n))));
+  }
     where
-      go : ((ring .n) < number p) ⊎ (number p ≤ (ring .n))
+      go : (p : Part) → InRing largest p → (ring .n < number p) ⊎ (number p ≤ ring .n)
           → (anyOf (samePart p) (parts (ring .n)) ≡ true) ⊎ (anyOf (samePart p) (parts (ring .n)) ≡ false)
-          → (healthOf (ring .health)) p ≡ cond (anyOf (samePart p) (parts (ring .n))) ((healthOf (ring .health)) p) 0
-      go l (inl a) = rw a
-      go (inl l) (inr a) = rw a ((above-fit ring whole) p i l)
-      go (inr l) (inr a) = contra (any-in (samePart p) (parts-in (ring .n) p (i .0, l)) (same-refl p)) a
+          → healthOf (ring .health) .health p ≡ cond (anyOf (samePart p) (parts (ring .n))) (healthOf (ring .health) .health p) 0
+      go p i l (inl a) = rw a
+      go p i (inl l) (inr a) = rw a (above-fit ring whole p i l)
+      go p i (inr l) (inr a) = contra (any-in (samePart p) (parts-in (ring .n) p (i .0, l)) (same-refl p)) a
 
-  same-commands : (p : Part) → InRing largest p → (commandsOf (ring .commands)) p ≡ commands (ring .n) K p
+      lock : (g : ℕ) → g < largest → (g < ring .n) ⊎ (ring .n ≤ g)
+          → (anyOf (samePart (generator g)) (parts (ring .n)) ≡ true) ⊎ (anyOf (samePart (generator g)) (parts (ring .n)) ≡ false)
+          → healthOf (ring .health) .locked g ≡ anyOf (samePart (generator g)) (parts (ring .n)) && healthOf (ring .health) .locked g
+      lock g l m (inl a) = rw a
+      lock g l (inl m) (inr a) =
+          contra (any-in (samePart (generator g)) (parts-in (ring .n) (generator g) (at-index (ring .n) g m)) (same-refl (generator g))) a
+      lock g l (inr m) (inr a) = rw a (above-unlocked ring whole g l m)
+
+  same-commands : (p : Part) → InRing largest p → commandsOf (ring .commands) p ≡ commands (ring .n) K p
   same-commands p i =
-      (as-planned ring whole) p i ∙ commands-ext (ring .n) (healthOf (ring .health)) K
-      (λ q j. same-health q (j .0, omega (arith, j .1, (good-size ring whole) .1))) p
+      as-planned ring whole p i ∙ commands-ext (ring .n) (healthOf (ring .health)) K
+      (record {
+        health = λ q j. same-health .health q (j .0, omega (arith, j .1, good-size ring whole .1));
+        locked = λ g l. same-health .locked g (omega (arith, good-size ring whole .1));
+      })
+      p
 
   is-ring : ring ≡ ringFor (ring .n) K
   unfolding ringFor commandPlaces commandsOf
@@ -738,7 +837,7 @@ module _ (state : RingState) (arrays : Arrays state) (good : badRecord state ≡
   good-made blank =
       let size = good-size ring whole in
       let l = good-loaded state good arrays in
-      let begun = makes (ring .n) (size .0) (size .1) (healthOf (ring .health)) (of-kind ring whole) (parts (ring .n)) (parts-at (ring .n)) in
+      let begun = locks (ring .n) (size .0) (size .1) (healthOf (ring .health)) (of-kind ring whole) (parts (ring .n)) (parts-at (ring .n)) in
       rw (is-state blank) (books (ring .n) K [] live (l .bookable) (l .single) (omega (arith, live-count l, l .few)) begun)
 
 -- ---- a record that is made has no booking behind its live ones

@@ -1,19 +1,18 @@
--- Document 02, Note 3: a generator that returns. Of every controller that meets demand 3: nothing starts or closes but by its own operation,
--- and a dark bus is judged by the health after the latest word. Of ours: words that repeat the present health change nothing, and a part
--- that fails and returns leaves the very record and the choices from before.
+-- Document 02, Notes 3 and 7: a generator that returns. Of every controller that meets demand 3: nothing starts or closes but by its own
+-- operation, and a dark bus is judged by the health after the latest word. Of ours: words that repeat the present health or lock change
+-- nothing, and a part that fails and returns, or is locked and unlocked, leaves the very record and the choices from before.
 use mathlib.Core.Path.{_≡_, refl, sym, _∙_, ap}
-use mathlib.Core.Bool.{Bool, true, false, _&&_, cond}
+use mathlib.Core.Bool.{Bool, true, false, not, _&&_, cond}
 use mathlib.Core.Logic.{_⊎_, inl, inr, _↔_}
 use mathlib.Core.List.{List, [], _∷_, List·Memᴰ·head, List·Memᴰ·tail, List·Memᴰ·eq-of-singleton}
 use mathlib.Core.Option.{some}
 use Prim.Native.Nat.{ℕ, zero, suc, _≤_, _<_}
 use native.Mathlib.Omega.{arith}
 use lib.ListN.{length}
-use borrow.Author.Tests.{eqb-true}
 use Rattle.model.specs.declared.Part.{Part}
 use Rattle.model.specs.declared.Part.the-variants.{Generator, GeneratorBreaker, BusBreaker}
 use Rattle.model.specs.declared.Word.{Word}
-use Rattle.model.specs.declared.Word.the-variants.{Fit}
+use Rattle.model.specs.declared.Word.the-variants.{Fit, Lock, Unlock}
 use Rattle.model.specs.declared.Report.{Report}
 use Rattle.model.specs.declared.Ring.{Ring}
 use Rattle.model.specs.declared.RingState.{RingState}
@@ -21,13 +20,14 @@ use Rattle.model.specs.declared.StateAnswer.{StateAnswer}
 use Rattle.model.specs.declared.Outcome.the-variants.{Served}
 use Rattle.model.specs.declared.Choice.the-variants.{Dark}
 use Rattle.model.specs.Lists.{anyOf, _∈_}
-use Rattle.model.specs.Values.{samePart, wordNumber}
+use Rattle.model.specs.Values.{number, index, samePart}
 use Rattle.model.specs.Plant.{
   PartHealth,
   largest,
   generator,
   generatorBreaker,
   busBreaker,
+  fit,
   fitGenerator,
   stuckOpen,
   stuckClosed,
@@ -38,17 +38,18 @@ use Rattle.model.specs.Plant.{
 }
 use Rattle.model.specs.Choosing.{commands}
 use Rattle.model.specs.Sheet.{written}
-use Rattle.model.specs.Reports.{reported, healthOf, commandsOf, healthPlaces, told, planned, calledFor, withPlan}
+use Rattle.model.specs.Reports.{healthBy, lockBy, reported, healthOf, commandsOf, healthPlaces, told, planned, calledFor, withPlan}
 use Rattle.model.specs.Refusals.{nextSheet}
 use Rattle.model.specs.Scans.{toldAll}
 use Rattle.model.specs.Bookings.{withFigures}
 use Rattle.model.specs.States.{toldState, reckoned, badRecord, StateReply, servedState, servedBy, stateStep}
-use Rattle.model.specs.Laws.Tests.{and-right, and-intro, or-left, or-none, dec}
-use Rattle.model.specs.Laws.Parts.{at-index, same-eq, health-places}
+use Rattle.model.specs.Laws.Tests.{and-left, and-right, and-intro, or-left, or-none, dec}
+use Rattle.model.specs.Laws.Parts.{at-index, same-eq, health-places, lock-places}
 use Rattle.model.specs.Laws.Refusals.{good-size}
 use Rattle.theory.specs.Theorems.Feeds.{Less, feed-alike, closed-case, closed-by}
 use Rattle.theory.specs.Theorems.Interruption.{on-fit, breaker-free, line-free}
-use Rattle.theory.specs.Theorems.Locality.{Agree}
+use Rattle.theory.specs.Theorems.Locality.{Agree, SameHealth}
+use Rattle.theory.specs.Proofs.Choosing.{fit-health}
 use Rattle.demands.specs.Statements.Demand3.{
   Controller,
   PlantState,
@@ -91,7 +92,7 @@ use Rattle.demands.specs.Statements.Demand3.{
   good-and,
   Demand3,
 }
-use Rattle.demands.specs.Statements.Returns.{Returns, none-returns, returns, meanwhile, ByOperationAlone}
+use Rattle.demands.specs.Statements.Returns.{Returns, none-returns, returns, unlocks, Repeats, meanwhile, ByOperationAlone}
 use Rattle.demands.specs.Statements.Records.{Arrays}
 use Rattle.demands.specs.Controller.{controller}
 use Rattle.demands.specs.Proofs.Operations.{perform-health, any-order}
@@ -140,14 +141,27 @@ module _ {c : Controller} (meets : Demand3 c) (n : ℕ) (buffer : List ℕ) (beg
 
 -- ---- what returns do before the first stroke
 
--- a fit part stays fit
-fit-stays : {rs : List Report} → Returns rs → (P : PlantState) (p : Part) → P .health .health p ≡ 0 → afterWords rs P .health .health p ≡ 0
+-- a fit generator stays fit
+fit-stays : {rs : List Report} → Returns rs → (P : PlantState) (g : ℕ) → fitGenerator (P .health) g ≡ true
+    → fitGenerator (afterWords rs P .health) g ≡ true
 unfolding afterWords afterWord
-fit-stays none-returns P p e = e
-fit-stays (returns k r) P p e = fit-stays r (afterWord (record { part = Generator k; word = Fit }) P) p (go (samePart p (Generator k)))
+fit-stays none-returns P g e = e
+fit-stays (returns k r) P g e =
+    fit-stays r (afterWord (record { part = Generator k; word = Fit }) P) g (go (samePart (generator g) (Generator k)))
   where
-    go : (t : Bool) → cond t 0 (P .health .health p) ≡ 0
-    go true = refl
+    unlocked : not (P .health .locked g) ≡ true
+    unlocked = and-right (fit (P .health .health (generator g))) (not (P .health .locked g)) e
+
+    go : (t : Bool)
+        → fit (cond t 0 (P .health .health (generator g))) && not (cond t (P .health .locked g) (P .health .locked g)) ≡ true
+    go true = unlocked
+    go false = e
+fit-stays (unlocks k r) P g e =
+    fit-stays r (afterWord (record { part = Generator k; word = Unlock }) P) g (go (samePart (generator g) (Generator k)))
+  where
+    go : (t : Bool)
+        → fit (cond t (P .health .health (generator g)) (P .health .health (generator g))) && not (cond t false (P .health .locked g)) ≡ true
+    go true = rw (and-left (fit (P .health .health (generator g))) (not (P .health .locked g)) e)
     go false = e
 
 -- a breaker is as it was
@@ -157,6 +171,7 @@ breakers-stay : {rs : List Report} → Returns rs → (P : PlantState) (i : ℕ)
 unfolding afterWords afterWord samePart
 breakers-stay none-returns P i = (refl, refl)
 breakers-stay (returns k r) P i = breakers-stay r (afterWord (record { part = Generator k; word = Fit }) P) i
+breakers-stay (unlocks k r) P i = breakers-stay r (afterWord (record { part = Generator k; word = Unlock }) P) i
 
 -- a part that is ordered on or closed was so before, or by an operation on it
 performed-by : (os : List Operation) (Q : PlantState) (p : Part) → performAll os Q .last p ≡ true
@@ -189,9 +204,9 @@ not-stuck (r ∷ rs) P p e c =
     go (dec (samePart p (r .part))) (t .0) (not-stuck rs (afterWord r P) p (t .1) c)
   where
     go : (samePart p (r .part) ≡ true) ⊎ (samePart p (r .part) ≡ false) → samePart p (r .part) && isStuckClosed (r .word) ≡ false
-        → stuckClosed (cond (samePart p (r .part)) (effect (r .word)) (P .health .health p)) ≡ true
+        → stuckClosed (cond (samePart p (r .part)) (effect (r .word) (P .health .health p)) (P .health .health p)) ≡ true
         → stuckClosed (P .health .health p) ≡ true
-    go (inl s) f d = absurd (not-closed (r .word) (rw s at f) (rw s at d))
+    go (inl s) f d = not-closed (r .word) (P .health .health p) (rw s at f) (rw s at d)
     go (inr s) f d = rw s at d
 
 -- a plant whose last orders are those that its health calls for
@@ -203,7 +218,7 @@ module _ (n : ℕ) (P : PlantState) (planned : Agree n (P .last) (commands n (P 
   -- no part that is ordered on or closed is stuck open
   free : (p : Part) → InRing n p → P .last p ≡ true → stuckOpen (P .health .health p) ≡ false
   free (Generator zero) i e = absurd (omega (arith, i .0))
-  free (Generator (suc g)) i e = rw (eqb-true (P .health .health (generator g)) 0 (on-fit n (P .health) g (sym (planned (generator g) i) ∙ e)))
+  free (Generator (suc g)) i e = rw (fit-health (P .health) g (on-fit n (P .health) g (sym (planned (generator g) i) ∙ e)))
   free (GeneratorBreaker zero) i e = absurd (omega (arith, i .0))
   free (GeneratorBreaker (suc g)) i e = breaker-free n (P .health) g (sym (planned (generatorBreaker g) i) ∙ e)
   free (BusBreaker zero) i e = absurd (omega (arith, i .0))
@@ -244,7 +259,7 @@ module _ (n : ℕ) (P : PlantState) (planned : Agree n (P .last) (commands n (P 
 
   no-less : {rs : List Report} → Returns rs → Less n (P .health) (P .last) (afterWords rs P .health) (afterWords rs P .last)
   no-less {rs} r = record {
-    runs = λ g hg f c. (rw (fit-stays r P (generator g) (eqb-true _ 0 f)), rw (words-last rs P) c);
+    runs = λ g hg f c. (fit-stays r P g f, rw (words-last rs P) c);
     breaker = λ g hg c. rw (words-last rs P, breakers-stay r P g .0) c;
     line = λ i hi c. rw (words-last rs P, breakers-stay r P i .1) c;
   }
@@ -276,27 +291,34 @@ module _ (state : RingState) (arrays : Arrays state) (good : badRecord state ≡
   as-it-was = record { outcome = Served; state = state; choices = calledFor ring }
 
   -- a ring that is told what it holds is the same
-  told-same : (r : Report) → wordNumber (r .word) ≡ H .health (r .part) → told ring r ≡ ring
+  told-same : (r : Report) → Repeats H r → told ring r ≡ ring
   unfolding told reported
   told-same r e = λ i. record { n = ring .n; health = sym same i; commands = ring .commands }
     where
       at : (p : Part) → (samePart p (r .part) ≡ true) ⊎ (samePart p (r .part) ≡ false)
-          → H .health p ≡ cond (samePart p (r .part)) (wordNumber (r .word)) (H .health p)
-      at p (inl t) = rw t (ap H (same-eq p (r .part) t) ∙ sym e)
+          → H .health p ≡ cond (samePart p (r .part)) (healthBy (r .word) (H .health p)) (H .health p)
+      at p (inl t) = let z = same-eq p (r .part) t in rw t (rw (← z) at (sym (e .health)))
       at p (inr t) = rw t
 
-      same : ring .health ≡ healthPlaces (reported H r)
-      same = health-is state arrays (reported H r) (λ p i. at p (dec (samePart p (r .part))))
+      lock : (g : ℕ) → (samePart (generator g) (r .part) ≡ true) ⊎ (samePart (generator g) (r .part) ≡ false)
+          → H .locked g ≡ cond (samePart (generator g) (r .part)) (lockBy (r .word) (H .locked g)) (H .locked g)
+      lock g (inl t) = rw t (sym (e .lock g (same-eq (generator g) (r .part) t)))
+      lock g (inr t) = rw t
 
-  told-all-same : (rs : List Report) → ((r : Report) → r ∈ rs → wordNumber (r .word) ≡ H .health (r .part)) → toldAll ring rs ≡ ring
+      same : ring .health ≡ healthPlaces (reported H r)
+      same =
+          health-is state arrays (reported H r)
+          (record { health = λ p i. at p (dec (samePart p (r .part))); locked = λ g l. lock g (dec (samePart (generator g) (r .part))) })
+
+  told-all-same : (rs : List Report) → ((r : Report) → r ∈ rs → Repeats H r) → toldAll ring rs ≡ ring
   unfolding toldAll
   told-all-same [] same = refl
   told-all-same (r ∷ rs) same =
       rw (told-same r (same r (List·Memᴰ·head refl))) (told-all-same rs (λ q m. same q (List·Memᴰ·tail m)))
 
-  -- a step or a scan whose words repeat the present health: the very record, the choices it calls for, two empty waves
+  -- a step or a scan whose words repeat the present health or lock: the very record, the choices it calls for, two empty waves
   pub words-repeated : (call : Call) → count call ≤ 64 → AllGood (ring .n) (words call)
-      → ((r : Report) → r ∈ words call → wordNumber (r .word) ≡ H .health (r .part)) → 2 ≤ length (lent call)
+      → ((r : Report) → r ∈ words call → Repeats H r) → 2 ≤ length (lent call)
       → replyTo controller state call ≡ record { answer = as-it-was; buffer = written (0 ∷ 0 ∷ []) (lent call) }
   unfolding servedState toldState
   words-repeated call few goods same enough =
@@ -310,16 +332,40 @@ module _ (state : RingState) (arrays : Arrays state) (good : badRecord state ≡
       let yes = fine-served small steady good call fine in
       call-served state call yes ∙ rw (told-all-same (words call) same, still ring right, plan-kept state good arrays)
 
-  -- .. and so word 0 for a fit generator
+  -- .. of a generator that is told what it is already
+  said-already : (k : ℕ) → InRing (ring .n) (Generator k) → (w : Word) → wordRefusal (Generator k) w ≡ 0
+      → Repeats H (record { part = Generator k; word = w }) → (buffer : List ℕ) → 2 ≤ length buffer
+      → stateStep state (record { part = Generator k; word = w }) buffer
+      ≡ record { answer = as-it-was; buffer = written (0 ∷ 0 ∷ []) buffer }
+  said-already k inside w fine same buffer enough =
+      let r : Report = record { part = Generator k; word = w } in
+      let g : Good (ring .n) r = record { inside = inside; word = fine } in
+      words-repeated (step r buffer) (omega arith) (good-and g no-reports) (λ q m. rw (List·Memᴰ·eq-of-singleton m) same) enough
+
+  -- and so word 0 for a generator whose health is that already, locked or not
   pub fit-already : (k : ℕ) → InRing (ring .n) (Generator k) → H .health (Generator k) ≡ 0 → (buffer : List ℕ) → 2 ≤ length buffer
       → stateStep state (record { part = Generator k; word = Fit }) buffer
       ≡ record { answer = as-it-was; buffer = written (0 ∷ 0 ∷ []) buffer }
   unfolding wordRefusal
-  fit-already k inside fit-before buffer enough =
-      let r : Report = record { part = Generator k; word = Fit } in
-      let g : Good (ring .n) r = record { inside = inside; word = refl } in
-      words-repeated (step r buffer) (omega arith) (good-and g no-reports)
-      (λ q m. rw (List·Memᴰ·eq-of-singleton m) (sym fit-before)) enough
+  fit-already k inside fit-before = said-already k inside Fit refl (record { health = sym fit-before; lock = λ g e. refl })
+
+  -- .. word 4 for a locked one
+  pub locked-already : (g : ℕ) → g < ring .n → H .locked g ≡ true → (buffer : List ℕ) → 2 ≤ length buffer
+      → stateStep state (record { part = generator g; word = Lock }) buffer
+      ≡ record { answer = as-it-was; buffer = written (0 ∷ 0 ∷ []) buffer }
+  unfolding wordRefusal
+  locked-already g hg is =
+      said-already (suc g) (at-index (ring .n) g hg) Lock refl
+      (record { health = refl; lock = λ h e. sym (ap (λ p. H .locked (index (number p))) e ∙ is) })
+
+  -- .. and word 5 for one that is not
+  pub unlocked-already : (g : ℕ) → g < ring .n → H .locked g ≡ false → (buffer : List ℕ) → 2 ≤ length buffer
+      → stateStep state (record { part = generator g; word = Unlock }) buffer
+      ≡ record { answer = as-it-was; buffer = written (0 ∷ 0 ∷ []) buffer }
+  unfolding wordRefusal
+  unlocked-already g hg is =
+      said-already (suc g) (at-index (ring .n) g hg) Unlock refl
+      (record { health = refl; lock = λ h e. sym (ap (λ p. H .locked (index (number p))) e ∙ is) })
 
   -- a record of the same size, health and bookings has the same plan and figures
   replanned-same : (S : RingState) → S .ring .n ≡ ring .n → S .ring .health ≡ ring .health → S .load .bookings ≡ state .load .bookings
@@ -330,41 +376,74 @@ module _ (state : RingState) (arrays : Arrays state) (good : badRecord state ≡
       rw (n-same, same, booked-same, live-same)
       (ap (λ x. record { outcome = Served; state = x; choices = calledFor ring }) (plan-kept state good arrays))
 
-  -- a fit part fails and returns: the very record, and the choices that it calls for
-  module _ (p : Part) (w : Word) (fit-before : H .health p ≡ 0) where
-    abbrev fails : Report
-    fails = record { part = p; word = w }
+  -- a word, and one that undoes it: the very record, and the choices that it calls for
+  module _ (done undone : Report) (back : SameHealth largest H (reported (reported H done) undone)) where
+    -- the record that was told the first
+    abbrev between : RingState
+    between = stateStep state done fullRoom .answer .state
 
-    abbrev returning : Report
-    returning = record { part = p; word = Fit }
-
-    -- the record that was told the fault
-    abbrev failed : RingState
-    failed = stateStep state fails fullRoom .answer .state
-
-    health-back : ring .health ≡ healthPlaces (reported (healthOf (healthPlaces (reported H fails))) returning)
+    health-back : ring .health ≡ healthPlaces (reported (healthOf (healthPlaces (reported H done))) undone)
     unfolding reported
-    health-back = health-is state arrays _ (λ q i. at q i (dec (samePart q p)))
-      where
-        at : (q : Part) → InRing largest q → (samePart q p ≡ true) ⊎ (samePart q p ≡ false)
-            → H .health q ≡ cond (samePart q p) 0 (healthOf (healthPlaces (reported H fails)) .health q)
-        at q i (inl t) = rw t (ap H (same-eq q p t) ∙ fit-before)
-        at q i (inr t) = rw (t, health-places (reported H fails) q i, t)
+    health-back = health-is state arrays _ (record {
+      health = λ q i. back .health q i ∙ sym (rw (health-places (reported H done) q i));
+      locked = λ g l. back .locked g l ∙ sym (rw (lock-places (reported H done) g l));
+    })
 
-    pub returned-as-before : Good (ring .n) fails → Good (ring .n) returning → stateStep failed returning fullRoom .answer ≡ as-it-was
+    undone-as-before : Good (ring .n) done → Good (ring .n) undone → stateStep between undone fullRoom .answer ≡ as-it-was
     unfolding servedState reckoned withFigures withPlan toldState toldAll told
-    returned-as-before g h =
+    undone-as-before g h =
         let small = good-size ring (ring-good state good) .1 in
-        let first : stateStep state fails fullRoom ≡ servedBy (toldState state (fails ∷ [])) fullRoom =
-        call-served state (step fails fullRoom) (served-step small (good-steady state good) good fails g) in
-        let n-is : failed .ring .n ≡ ring .n = ap (λ (x : StateReply). x .answer .state .ring .n) first in
-        let stored : failed .ring .health ≡ healthPlaces (reported H fails) = ap (λ (x : StateReply). x .answer .state .ring .health) first in
+        let first : stateStep state done fullRoom ≡ servedBy (toldState state (done ∷ [])) fullRoom =
+        call-served state (step done fullRoom) (served-step small (good-steady state good) good done g) in
+        let n-is : between .ring .n ≡ ring .n = ap (λ (x : StateReply). x .answer .state .ring .n) first in
+        let stored : between .ring .health ≡ healthPlaces (reported H done) = ap (λ (x : StateReply). x .answer .state .ring .health) first in
         let booked-is = ap (λ (x : StateReply). x .answer .state .load .bookings) first in
         let live-is = ap (λ (x : StateReply). x .answer .state .load .live) first in
-        let still-good = call-good state good (step fails fullRoom) in
-        let bound = good-size (failed .ring) (ring-good failed still-good) .1 in
-        let second : stateStep failed returning fullRoom ≡ servedBy (toldState failed (returning ∷ [])) fullRoom =
-        call-served failed (step returning fullRoom)
-        (served-step bound (good-steady failed still-good) still-good returning (rw n-is h)) in
+        let still-good = call-good state good (step done fullRoom) in
+        let bound = good-size (between .ring) (ring-good between still-good) .1 in
+        let second : stateStep between undone fullRoom ≡ servedBy (toldState between (undone ∷ [])) fullRoom =
+        call-served between (step undone fullRoom)
+        (served-step bound (good-steady between still-good) still-good undone (rw n-is h)) in
         ap (λ (x : StateReply). x .answer) second
-        ∙ replanned-same (toldState failed (returning ∷ [])) n-is (rw stored (sym health-back)) booked-is live-is
+        ∙ replanned-same (toldState between (undone ∷ [])) n-is (rw stored (sym health-back)) booked-is live-is
+
+  -- a fit part fails and returns
+  pub returned-as-before : (p : Part) (w : Word) → ((l : Bool) → lockBy w l ≡ l) → H .health p ≡ 0
+      → Good (ring .n) (record { part = p; word = w }) → Good (ring .n) (record { part = p; word = Fit })
+      → stateStep (stateStep state (record { part = p; word = w }) fullRoom .answer .state) (record { part = p; word = Fit }) fullRoom .answer
+      ≡ as-it-was
+  unfolding reported
+  returned-as-before p w about-health fit-before =
+      undone-as-before (record { part = p; word = w }) (record { part = p; word = Fit })
+      (record { health = λ q i. at q (dec (samePart q p)); locked = λ g l. lock g (samePart (generator g) p) })
+    where
+      at : (q : Part) → (samePart q p ≡ true) ⊎ (samePart q p ≡ false)
+          → H .health q ≡ cond (samePart q p) 0 (cond (samePart q p) (healthBy w (H .health q)) (H .health q))
+      at q (inl t) = rw t (ap (H .health) (same-eq q p t) ∙ fit-before)
+      at q (inr t) = rw t
+
+      lock : (g : ℕ) (t : Bool)
+          → H .locked g ≡ cond t (cond t (lockBy w (H .locked g)) (H .locked g)) (cond t (lockBy w (H .locked g)) (H .locked g))
+      lock g true = sym (about-health (H .locked g))
+      lock g false = refl
+
+  -- "Word 4 locks it and word 5 unlocks it" (Note 7): a generator that is not locked is locked and unlocked
+  pub unlocked-as-before : (g : ℕ) → g < ring .n → H .locked g ≡ false
+      → stateStep (stateStep state (record { part = generator g; word = Lock }) fullRoom .answer .state)
+      (record { part = generator g; word = Unlock }) fullRoom .answer
+      ≡ as-it-was
+  unfolding reported wordRefusal
+  unlocked-as-before g hg unlocked-before =
+      undone-as-before (record { part = generator g; word = Lock }) (record { part = generator g; word = Unlock })
+      (record { health = λ q i. at q (samePart q (generator g)); locked = λ h l. lock h (dec (samePart (generator h) (generator g))) })
+      (record { inside = at-index (ring .n) g hg; word = refl }) (record { inside = at-index (ring .n) g hg; word = refl })
+    where
+      at : (q : Part) (t : Bool) → H .health q ≡ cond t (cond t (H .health q) (H .health q)) (cond t (H .health q) (H .health q))
+      at q true = refl
+      at q false = refl
+
+      lock : (h : ℕ) → (samePart (generator h) (generator g) ≡ true) ⊎ (samePart (generator h) (generator g) ≡ false)
+          → H .locked h
+          ≡ cond (samePart (generator h) (generator g)) false (cond (samePart (generator h) (generator g)) true (H .locked h))
+      lock h (inl t) = rw t (ap (λ p. H .locked (index (number p))) (same-eq (generator h) (generator g) t) ∙ unlocked-before)
+      lock h (inr t) = rw t
