@@ -5,3 +5,4 @@ pub mod Records
 pub mod Scans
 pub mod Bookings
 pub mod Returns
+pub mod Locks

@@ -1,6 +1,6 @@
 -- What stands between the calls of a list, of the ring and of the bookings: it stands after a start, and after every call.
 use mathlib.Core.Path.{_≡_, refl, sym, _∙_, ap}
-use mathlib.Core.Bool.{true, false, not, cond}
+use mathlib.Core.Bool.{true, false, cond}
 use mathlib.Core.Logic.{_≢_, _⊎_, inl, inr}
 use mathlib.Core.List.{List, []}
 use mathlib.Core.Option.{Option, some}
@@ -21,7 +21,7 @@ use Rattle.model.specs.declared.RingState.{RingState}
 use Rattle.model.specs.declared.Outcome.the-variants as outcome
 use Rattle.model.specs.declared.BusChoice.{BusChoice}
 use Rattle.model.specs.declared.BookingAnswer.{BookingAnswer}
-use Rattle.model.specs.Values.{number, samePart, wordNumber, outcomeOf}
+use Rattle.model.specs.Values.{number, samePart, outcomeOf}
 use Rattle.model.specs.Plant.{smallest, largest, generator, healthOfKind, InRing}
 use Rattle.model.specs.Reports.{healthBy, lockBy, reported, healthOf, blankRing, told, calledFor, withPlan}
 use Rattle.model.specs.Sheet.{written}

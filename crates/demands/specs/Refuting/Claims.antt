@@ -91,7 +91,7 @@ unfoldable pub ringSum : Ring → ℕ
 ringSum ring =
     let h = ring .health in
     let c = ring .commands in
-    ring .n + (sum (h .generators) + sum (h .«generator_breakers») + sum (h .«bus_breakers»))
+    ring .n + (sum (h .generators) + sum (h .«generator_breakers») + sum (h .«bus_breakers») + sum (map bit (h .locked)))
     + (sum (map bit (c .generators)) + sum (map bit (c .«generator_breakers»)) + sum (map bit (c .«bus_breakers»)))
 
 -- bookings as digits, in their order: each one's number, bus and watts
@@ -201,11 +201,17 @@ darkThoughFed n W b = isDark (shownAt W b) && differ (feedNumber (busFeed n (W .
 unfoldable pub otherHealth : World → Part → Bool
 otherHealth W p = differ (healthOf (W .state .ring .health) .health p) (W .plant .health .health p)
 
+unfoldable pub otherLock : World → ℕ → Bool
+otherLock W g = not (Bool·beq (healthOf (W .state .ring .health) .locked g) (W .plant .health .locked g))
+
 unfoldable pub otherCommand : World → Part → Bool
 otherCommand W p = not (Bool·beq (commandsOf (W .state .ring .commands) p) (W .plant .last p))
 
 unfoldable pub unfitAbove : ℕ → World → Part → Bool
 unfitAbove n W p = ltb n (number p) && differ (healthOf (W .state .ring .health) .health p) 0
+
+unfoldable pub lockAbove : ℕ → World → ℕ → Bool
+lockAbove n W g = not (ltb g n) && healthOf (W .state .ring .health) .locked g
 
 unfoldable pub onAbove : ℕ → World → Part → Bool
 onAbove n W p = ltb n (number p) && commandsOf (W .state .ring .commands) p
@@ -286,7 +292,7 @@ pub data Claim3 : Type 0 where
   only always record-kept buffer-kept choices-dark behind-kept length-kept : Claim3
   ends ends-after start-chosen start-first start-second choices-are decodes first-is second-is : Claim3
   dark-exactly lit-exactly energized de-energized : Claim3
-  size health standing health-above commands-above : Claim3
+  size health locked standing health-above locked-above commands-above : Claim3
   clash-in-start-first clash-in-start-second clash-in-first clash-in-second clash-between : Claim3
   bookings live watts watts-above dark-watts sums : Claim3
   booking-only booking-always booking-record-kept : Claim3
@@ -372,8 +378,10 @@ module _ (c : Controller) (i : Instance) where
   fails3 de-energized = atEnd (λ W. anyOf (darkThoughFed (i .size) W) (below (i .size)))
   fails3 size = atEnd (λ W. differ (W .state .ring .n) (i .size))
   fails3 health = atEither (λ W. anyOf (otherHealth W) (parts (i .size)))
+  fails3 locked = atEither (λ W. anyOf (otherLock W) (below (i .size)))
   fails3 standing = atEither (λ W. anyOf (otherCommand W) (parts (i .size)))
   fails3 health-above = atEnd (λ W. anyOf (unfitAbove (i .size) W) (parts largest))
+  fails3 locked-above = atEnd (λ W. anyOf (lockAbove (i .size) W) (below largest))
   fails3 commands-above = atEnd (λ W. anyOf (onAbove (i .size) W) (parts largest))
   fails3 clash-in-start-first = atStart (clashInFirst (i .size) (i .backward) (i .done) [] freshPlant)
   fails3 clash-in-start-second = atStart (clashInSecond (i .size) (i .backward) (i .done) freshPlant)

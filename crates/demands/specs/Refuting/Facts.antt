@@ -5,11 +5,12 @@ use mathlib.Core.Logic.{_⊎_, inl, inr}
 use mathlib.Core.List.{[], _∷_, List·Memᴰ·not-nil}
 use mathlib.Core.Option.{none, some}
 use native.Mathlib.Omega.{arith}
+use lib.Dec.{eqb}
 use lib.ListN.{length}
 use Rattle.model.specs.declared.Part.{Part}
 use Rattle.model.specs.declared.Part.the-variants.{Generator, GeneratorBreaker, BusBreaker}
 use Rattle.model.specs.declared.Word.{Word}
-use Rattle.model.specs.declared.Word.the-variants.{Fit, StuckOff, StuckOpen, StuckClosed}
+use Rattle.model.specs.declared.Word.the-variants.{Fit, StuckOff, StuckOpen, StuckClosed, Lock, Unlock}
 use Rattle.model.specs.declared.Report.{Report}
 use Rattle.model.specs.declared.Feed.the-variants.{Dark, Fed, Clash}
 use Rattle.model.specs.Lists.{below, keep, first, anyOf, allOf, _∈_}
@@ -43,7 +44,7 @@ use Rattle.demands.specs.Statements.Demand3.{
   fedBy,
   fedByNone,
 }
-use Rattle.demands.specs.Statements.Returns.{none-returns, returns, ByOperationAlone}
+use Rattle.demands.specs.Statements.Returns.{none-returns, returns, unlocks, ByOperationAlone}
 
 -- a report of a part and a word
 abbrev pub report : Part → Word → Report
@@ -69,6 +70,21 @@ in-order : (afterWords (breaker2Open ∷ breaker1Closed ∷ breaker2Fit ∷ []) 
 unfolding afterWords afterWord samePart
 in-order = (refl, refl, refl)
 
+-- "Word 4 locks it and word 5 unlocks it"; "Neither lock nor health alters the other": G1 locked, unlocked and locked again; replaced while
+-- locked; failed while locked and unlocked; G2 is not locked with it; a breaker has no lock
+locked-in-order :
+    (afterWords (report (Generator 1) Lock ∷ []) freshPlant .health .locked 0 ≡ true)
+    × (afterWords (report (Generator 1) Lock ∷ report (Generator 1) Unlock ∷ []) freshPlant .health .locked 0 ≡ false)
+    × (afterWords (report (Generator 1) Unlock ∷ report (Generator 1) Lock ∷ []) freshPlant .health .locked 0 ≡ true)
+    × (afterWords (report (Generator 1) Lock ∷ report (Generator 1) Fit ∷ []) freshPlant .health .locked 0 ≡ true)
+    × (afterWords (report (Generator 1) Lock ∷ generator1Off ∷ report (Generator 1) Unlock ∷ []) freshPlant .health .locked 0 ≡ false)
+    × (afterWords (report (Generator 1) Lock ∷ generator1Off ∷ report (Generator 1) Unlock ∷ []) freshPlant .health .health (Generator 1) ≡ 1)
+    × (afterWords (report (Generator 1) Lock ∷ []) freshPlant .health .health (Generator 1) ≡ 0)
+    × (afterWords (report (Generator 1) Lock ∷ []) freshPlant .health .locked 1 ≡ false)
+    × (afterWords (report (BusBreaker 1) Lock ∷ []) freshPlant .health .locked 0 ≡ false)
+unfolding afterWords afterWord samePart
+locked-in-order = (refl, refl, refl, refl, refl, refl, refl, refl, refl)
+
 -- an order for BB1 to close
 abbrev closing1 : Operation
 closing1 = record { part = BusBreaker 1; command = true }
@@ -78,6 +94,7 @@ excepts : (excepted (breaker1Closed ∷ []) (closing1 ∷ []) ≡ true)
     × (excepted (breaker2Fit ∷ []) (closing1 ∷ []) ≡ false)
     × (excepted (generator1Off ∷ []) (closing1 ∷ []) ≡ false)
     × (excepted (breaker2Open ∷ []) (closing1 ∷ []) ≡ false)
+    × (excepted (report (Generator 1) Lock ∷ report (Generator 1) Unlock ∷ []) (closing1 ∷ []) ≡ false)
     × (excepted (breaker1Closed ∷ []) [] ≡ false)
     × (excepted [] (closing1 ∷ []) ≡ false)
     × (excepted (breaker1Closed ∷ breaker2Open ∷ []) (closing1 ∷ []) ≡ true)
@@ -85,7 +102,7 @@ excepts : (excepted (breaker1Closed ∷ []) (closing1 ∷ []) ≡ true)
     × (excepted (breaker2Open ∷ breaker2Fit ∷ []) (closing1 ∷ []) ≡ false)
     × (excepted (breaker1Closed ∷ breaker2Open ∷ []) [] ≡ false)
 unfolding excepted anyOf
-excepts = (refl, refl, refl, refl, refl, refl, refl, refl, refl, refl)
+excepts = (refl, refl, refl, refl, refl, refl, refl, refl, refl, refl, refl)
 
 -- the decoder takes a sheet with bytes behind it, and refuses a byte that is no order, an unknown code and a short buffer
 decodes :
@@ -114,13 +131,23 @@ counts = (refl, refl, refl, refl, refl, refl, refl)
 -- G1 is stuck off and ordered on, and GB1 closed
 abbrev waitingOn : PlantState
 waitingOn = record {
-  health = λ p. cond (samePart p (Generator 1)) 1 0;
+  health = record { health = λ p. cond (samePart p (Generator 1)) 1 0; locked = λ g. false };
+  last = λ p. samePart p (Generator 1) || samePart p (GeneratorBreaker 1);
+}
+
+-- G1 is locked and ordered on, and GB1 closed
+abbrev waitingLocked : PlantState
+waitingLocked = record {
+  health = record { health = λ p. 0; locked = λ g. eqb g 0 };
   last = λ p. samePart p (Generator 1) || samePart p (GeneratorBreaker 1);
 }
 
 -- BB1 is stuck open and ordered closed
 abbrev waitingClosed : PlantState
-waitingClosed = record { health = λ p. cond (samePart p (BusBreaker 1)) 2 0; last = λ p. samePart p (BusBreaker 1) }
+waitingClosed = record {
+  health = record { health = λ p. cond (samePart p (BusBreaker 1)) 2 0; locked = λ g. false };
+  last = λ p. samePart p (BusBreaker 1);
+}
 
 none-in : {A : Type 0} {x : A} → x ∈ [] → ⊥
 none-in m = List·Memᴰ·not-nil m
@@ -129,6 +156,15 @@ none-in m = List·Memᴰ·not-nil m
 starts-refuted : ByOperationAlone 3 waitingOn → ⊥
 unfolding afterWords afterWord performAll samePart
 starts-refuted b = go (b .starts (report (Generator 1) Fit ∷ []) [] 0 (omega arith) refl)
+  where
+    go : (false ≡ true) ⊎ (operation true (Generator 1) ∈ []) → ⊥
+    go (inl e) = contra e refl
+    go (inr m) = none-in m
+
+-- .. or as it is unlocked
+unlock-starts-refuted : ByOperationAlone 3 waitingLocked → ⊥
+unfolding afterWords afterWord performAll samePart
+unlock-starts-refuted b = go (b .starts (report (Generator 1) Unlock ∷ []) [] 0 (omega arith) refl)
   where
     go : (false ≡ true) ⊎ (operation true (Generator 1) ∈ []) → ⊥
     go (inl e) = contra e refl
@@ -148,5 +184,13 @@ feeds-refuted : ByOperationAlone 3 waitingOn → ⊥
 unfolding afterWords afterWord samePart busFeed feeders feeds feedBy keep below connected arc up allOf
 feeds-refuted b =
     let lit : Fed 1 ≡ Dark = b .fed-as-before (report (Generator 1) Fit ∷ []) (returns 1 none-returns) 0 (omega arith) in
+    let sources = ap (λ f. length (feedSources f)) lit in
+    omega (arith, sources)
+
+-- .. or as G1 is unlocked
+unlock-feeds-refuted : ByOperationAlone 3 waitingLocked → ⊥
+unfolding afterWords afterWord samePart busFeed feeders feeds feedBy keep below connected arc up allOf
+unlock-feeds-refuted b =
+    let lit : Fed 1 ≡ Dark = b .fed-as-before (report (Generator 1) Unlock ∷ []) (unlocks 1 none-returns) 0 (omega arith) in
     let sources = ap (λ f. length (feedSources f)) lit in
     omega (arith, sources)

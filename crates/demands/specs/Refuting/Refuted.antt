@@ -123,8 +123,10 @@ use Rattle.demands.specs.Refuting.Claims.{
   litByAnother,
   darkThoughFed,
   otherHealth,
+  otherLock,
   otherCommand,
   unfitAbove,
+  lockAbove,
   onAbove,
   otherLive,
   otherCount,
@@ -398,6 +400,10 @@ module _ {n : ℕ} {W : World} (g : RecordGiven n W) where
   unfolding otherHealth
   health-sound e = let t = some-part n (otherHealth W) e in unequal _ _ (g .health (t .0) (t .1)) (t .2)
 
+  locked-sound : anyOf (otherLock W) (below n) ≡ true → ⊥
+  unfolding otherLock
+  locked-sound e = let t = some-bus n (otherLock W) e in beq-same _ _ (g .locked (t .0) (t .1)) (t .2)
+
   standing-sound : anyOf (otherCommand W) (parts n) ≡ true → ⊥
   unfolding otherCommand
   standing-sound e = let t = some-part n (otherCommand W) e in beq-same _ _ (g .standing (t .0) (t .1)) (t .2)
@@ -408,6 +414,13 @@ module _ {n : ℕ} {W : World} (g : RecordGiven n W) where
       let t = some-part largest (unfitAbove n W) e in
       let u = both (ltb n _) _ (t .2) in
       unequal _ _ (g .health-above (t .0) (t .1) (ltb-true n _ (u .0))) (u .1)
+
+  locked-above-sound : anyOf (lockAbove n W) (below largest) ≡ true → ⊥
+  unfolding lockAbove
+  locked-above-sound e =
+      let t = some-bus largest (lockAbove n W) e in
+      let u = both (not (ltb (t .0) n)) _ (t .2) in
+      contra (u .1) (g .locked-above (t .0) (t .1) (not-less (t .0) n (u .0)))
 
   commands-above-sound : anyOf (onAbove n W) (parts largest) ≡ true → ⊥
   unfolding onAbove
@@ -651,6 +664,9 @@ module _ (c : Controller) (i : Instance) (d : Demand3 c) where
       let t = at-end c i (λ W. differ (W .state .ring .n) N) e in unequal (t .0 .state .ring .n) N (given-in (t .1) .size) (t .2)
   refutes3 claim.health e = let t = given-either (λ W. anyOf (otherHealth W) (parts N)) e in health-sound (t .1) (t .2)
   refutes3 claim.standing e = let t = given-either (λ W. anyOf (otherCommand W) (parts N)) e in standing-sound (t .1) (t .2)
+  refutes3 claim.locked e = let t = given-either (λ W. anyOf (otherLock W) (below N)) e in locked-sound (t .1) (t .2)
+  refutes3 claim.locked-above e =
+      let t = at-end c i (λ W. anyOf (lockAbove N W) (below largest)) e in locked-above-sound (given-in (t .1)) (t .2)
   refutes3 claim.health-above e =
       let t = at-end c i (λ W. anyOf (unfitAbove N W) (parts largest)) e in health-above-sound (given-in (t .1)) (t .2)
   refutes3 claim.commands-above e =

@@ -121,7 +121,7 @@ performed-planned {n} {P} a d (performed {xs = xs} {ys = ys} ax ay) p i =
 
 module _ {c : Controller} (meets : Demand3 c) (n : ℕ) (buffer : List ℕ) (begun : isServed (c .start n buffer) ≡ true) where
   -- after every call, served or refused, the last orders are those that the plant's health calls for
-  ended-planned : {calls : Calls} {W : World} → Ended c n buffer calls W → Agree n (W .plant .last) (commands n (W .plant .health))
+  pub ended-planned : {calls : Calls} {W : World} → Ended c n buffer calls W → Agree n (W .plant .last) (commands n (W .plant .health))
   ended-planned {calls} (started e d q) p i = performed-planned (meets .holds n buffer begun calls .start-chosen) d q p i
   ended-planned {calls} (served call h e d q) p i =
       performed-planned (meets .holds n buffer begun calls .chosen call whole h e) d q p i

@@ -1,0 +1,151 @@
+-- Document 02, Note 7. Of every controller that meets demand 3 and every list of calls: no locked generator runs at any interruption, none is
+-- ordered on, and each stands ordered off when the orders have ended. Of every plant: neither lock nor health alters the other.
+use mathlib.Core.Path.{_≡_, refl, _∙_}
+use mathlib.Core.Bool.{Bool, true, false, _&&_, cond}
+use mathlib.Core.Logic.{_⊎_, inl, inr}
+use mathlib.Core.List.{List, [], _∷_, _++_, map, List·Memᴰ·head, List·Memᴰ·tail, List·Memᴰ·append-cases}
+use mathlib.Core.Option.{some}
+use Prim.Native.Nat.{ℕ}
+use Rattle.model.specs.declared.Part.{Part}
+use Rattle.model.specs.declared.Word.{Word}
+use Rattle.model.specs.declared.Report.{Report}
+use Rattle.model.specs.Lists.{_∈_}
+use Rattle.model.specs.Values.{samePart}
+use Rattle.model.specs.Plant.{PartHealth, generator, fit, fitGenerator}
+use Rattle.model.specs.Choosing.{plan, commands}
+use Rattle.model.specs.Sheet.{opening, closing}
+use Rattle.model.specs.Laws.Tests.{contra, dec}
+use Rattle.model.specs.Laws.Lists.{map-at}
+use Rattle.model.specs.Laws.Parts.{at-index, same-eq}
+use Rattle.theory.specs.Theorems.Closing.{closing-at}
+use Rattle.theory.specs.Theorems.Interruption.{on-fit}
+use Rattle.demands.specs.Statements.Demand3.{
+  Controller,
+  PlantState,
+  effect,
+  lockEffect,
+  afterWord,
+  afterWords,
+  operation,
+  Phases,
+  decode,
+  Call,
+  Calls,
+  replyTo,
+  words,
+  isServed,
+  World,
+  AsChosen,
+  Demand3,
+}
+use Rattle.demands.specs.Statements.Locks.{
+  NeverStarts,
+  AboutLock,
+  lock,
+  unlock,
+  AboutHealth,
+  fit as word-fit,
+  stuck-off,
+  stuck-open,
+  stuck-closed,
+  Only,
+  Apart,
+}
+use Rattle.demands.specs.Proofs.Standing.{same-phases}
+use Rattle.demands.specs.Theorems.Returns.{ended-planned}
+
+-- ---- a locked generator
+
+-- .. is not fit, whatever its health
+locked-unfit : (H : PartHealth) (g : ℕ) → H .locked g ≡ true → fitGenerator H g ≡ false
+locked-unfit H g e = rw e (go (fit (H .health (generator g))))
+  where
+    go : (b : Bool) → b && false ≡ false
+    go true = refl
+    go false = refl
+
+-- .. and no plan commands it on
+locked-off : (n : ℕ) (H : PartHealth) (g : ℕ) → H .locked g ≡ true → commands n H (generator g) ≡ false
+locked-off n H g e = go (dec (commands n H (generator g)))
+  where
+    go : (commands n H (generator g) ≡ true) ⊎ (commands n H (generator g) ≡ false) → commands n H (generator g) ≡ false
+    go (inl c) = contra (on-fit n H g c) (locked-unfit H g e)
+    go (inr c) = c
+
+-- no wave for a plant orders it on
+none-ordered : (n : ℕ) (P : PlantState) (g : ℕ) → P .health .locked g ≡ true → (ph : Phases)
+    → ph .first ≡ map (operation false) (opening n (P .last) (commands n (P .health)))
+    → ph .second ≡ map (operation true) (closing n (P .last) (plan n (P .health)))
+    → operation true (generator g) ∈ ph .first ++ ph .second → ⊥
+none-ordered n P g e ph first second m = go (List·Memᴰ·append-cases (ph .first) m)
+  where
+    go : (operation true (generator g) ∈ ph .first) ⊎ (operation true (generator g) ∈ ph .second) → ⊥
+    go (inl k) =
+        let t = map-at (operation false) (opening n (P .last) (commands n (P .health))) (rw first at k) in
+        contra refl (on-is (t .2))
+      where
+        on-is : {p : Part} → operation true (generator g) ≡ operation false p → true ≡ false
+        on-is q = λ i. q i .command
+    go (inr k) =
+        let t = map-at (operation true) (closing n (P .last) (plan n (P .health))) (rw second at k) in
+        let part : generator g ≡ t .0 = λ i. t .2 i .part in
+        contra (rw (← part) at (closing-at n (P .health) (P .last) (t .0) (t .1) .2)) (locked-off n (P .health) g e)
+
+pub never-starts : {c : Controller} → Demand3 c → (n : ℕ) (buffer : List ℕ) → isServed (c .start n buffer) ≡ true → (calls : Calls)
+    → NeverStarts c n buffer calls
+never-starts {c} meets n buffer begun calls = record {
+  not-running = λ {P} i g e. rw (locked-unfit (P .health) g e);
+  not-ordered = λ {W = W} call {ph} b h s d g e. ordered W call ph d g e (meets .holds n buffer begun calls .chosen call b h s);
+  ordered-off =
+      λ {W = W} b h g hg e.
+      ended-planned meets n buffer begun h (generator g) (at-index n g hg) ∙ locked-off n (W .plant .health) g e;
+}
+  where
+    ordered : (W : World) (call : Call) (ph : Phases) → decode n (replyTo c (W .state) call .buffer) ≡ some ph
+        → (g : ℕ) → afterWords (words call) (W .plant) .health .locked g ≡ true
+        → AsChosen n (afterWords (words call) (W .plant)) (replyTo c (W .state) call)
+        → operation true (generator g) ∈ ph .first ++ ph .second → ⊥
+    ordered W call ph d g e a =
+        let same : a .phases ≡ ph = same-phases (a .decodes) d in
+        none-ordered n (afterWords (words call) (W .plant)) g e ph
+        (rw same at (a .first-is)) (rw same at (a .second-is))
+
+-- ---- neither lock nor health alters the other
+
+health-word : {w : Word} → AboutHealth w → (l : Bool) → lockEffect w l ≡ l
+health-word word-fit l = refl
+health-word stuck-off l = refl
+health-word stuck-open l = refl
+health-word stuck-closed l = refl
+
+lock-word : {w : Word} → AboutLock w → (h : ℕ) → effect w h ≡ h
+lock-word lock h = refl
+lock-word unlock h = refl
+
+-- a word that is not for a part, or leaves what it has
+left : {A : Type 0} (p : Part) (r : Report) (x y : A) → (p ≡ r .part → y ≡ x) → cond (samePart p (r .part)) y x ≡ x
+left p r x y f = go (dec (samePart p (r .part)))
+  where
+    go : (samePart p (r .part) ≡ true) ⊎ (samePart p (r .part) ≡ false) → cond (samePart p (r .part)) y x ≡ x
+    go (inl e) = rw e (f (same-eq p (r .part) e))
+    go (inr e) = rw e
+
+lock-stays : (rs : List Report) (P : PlantState) (g : ℕ) → Only AboutHealth (generator g) rs
+    → afterWords rs P .health .locked g ≡ P .health .locked g
+unfolding afterWords afterWord
+lock-stays [] P g only = refl
+lock-stays (r ∷ rs) P g only =
+    lock-stays rs (afterWord r P) g (λ q m. only q (List·Memᴰ·tail m))
+    ∙ left (generator g) r (P .health .locked g) (lockEffect (r .word) (P .health .locked g))
+    (λ e. health-word (only r (List·Memᴰ·head refl) e) (P .health .locked g))
+
+health-stays : (rs : List Report) (P : PlantState) (p : Part) → Only AboutLock p rs → afterWords rs P .health .health p ≡ P .health .health p
+unfolding afterWords afterWord
+health-stays [] P p only = refl
+health-stays (r ∷ rs) P p only =
+    health-stays rs (afterWord r P) p (λ q m. only q (List·Memᴰ·tail m))
+    ∙ left p r (P .health .health p) (effect (r .word) (P .health .health p))
+    (λ e. lock-word (only r (List·Memᴰ·head refl) e) (P .health .health p))
+
+pub apart : (P : PlantState) → Apart P
+apart P = record { lock-remains = λ rs. lock-stays rs P; health-remains = λ rs. health-stays rs P }
