@@ -32,6 +32,7 @@ use Rattle.model.specs.Refusals.{
   sizeOutside,
   healthOutside,
   activeAbove,
+  lockedAbove,
   unplanned,
   badRing,
   busOutside,
@@ -91,7 +92,7 @@ module _ (d : Design) where
   abbrev designPath : Ring → ℕ → Option Path
   designPath ring = d .paths-of (ring .n) (healthOf (ring .health))
 
-  -- the commands that a ring's health calls for, and the sheet that leads to them
+  -- the commands that a ring's health and locks call for, and the sheet that leads to them
   unfoldable pub designCommands : Ring → PartCommands
   designCommands ring p = anyOf (λ w. anyOf (samePart p) (d .parts-of (ring .n) w)) (earlier (designPath ring) (ring .n))
 
@@ -134,6 +135,7 @@ module _ (d : Design) where
       (sizeOutside (ring .n)
       ∷ healthOutside H (parts largest)
       ∷ activeAbove (ring .n) H C
+      ∷ lockedAbove (ring .n) H
       ∷ anyOf (λ p. not (Bool·beq (C p) (designCommands ring p))) (parts largest)
       ∷ [])
       || badLoad (ring .n) (designChoices ring) (state .load)

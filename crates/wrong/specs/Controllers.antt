@@ -6,7 +6,7 @@ use lib.Dec.{eqb}
 use lib.ListN.{length, take, drop, set}
 use Rattle.model.specs.declared.Part.{Part}
 use Rattle.model.specs.declared.Part.the-variants.{Generator, GeneratorBreaker, BusBreaker}
-use Rattle.model.specs.declared.Word.the-variants.{StuckOff, Fit, StuckOpen, StuckClosed}
+use Rattle.model.specs.declared.Word.the-variants.{StuckOff, Fit, StuckOpen, StuckClosed, Lock, Unlock}
 use Rattle.model.specs.declared.Report.{Report}
 use Rattle.model.specs.declared.Scan.{Scan}
 use Rattle.model.specs.declared.Ring.{Ring}
@@ -75,9 +75,31 @@ faultAbove ring =
         generators = set (h .generators) 3 1;
         «generator_breakers» = h .«generator_breakers»;
         «bus_breakers» = h .«bus_breakers»;
+        locked = h .locked;
       };
       commands = ring .commands;
     }
+
+-- .. other locks; none; G4's
+abbrev pub withLocks : (List Bool → List Bool) → Ring → Ring
+withLocks f ring =
+    let h = ring .health in
+    record {
+      n = ring .n;
+      health = record {
+        generators = h .generators;
+        «generator_breakers» = h .«generator_breakers»;
+        «bus_breakers» = h .«bus_breakers»;
+        locked = f (h .locked);
+      };
+      commands = ring .commands;
+    }
+
+abbrev pub unlockedRing : Ring → Ring
+unlockedRing ring = withLocks (map (λ l. false)) ring
+
+abbrev pub lockAbove : Ring → Ring
+lockAbove ring = withLocks (λ ls. set ls 3 true) ring
 
 abbrev pub commandAbove : Ring → Ring
 commandAbove ring =
@@ -195,6 +217,8 @@ returnOf (Generator k) Fit = true
 returnOf (Generator k) StuckOff = false
 returnOf (Generator k) StuckOpen = false
 returnOf (Generator k) StuckClosed = false
+returnOf (Generator k) Lock = false
+returnOf (Generator k) Unlock = false
 returnOf (GeneratorBreaker k) w = false
 returnOf (BusBreaker k) w = false
 
@@ -230,3 +254,51 @@ leavesOrders =
     cond (isReturn r) (servedBy (toldState state (r ∷ [])) buffer)
     (withRing (λ a. record { n = a .n; health = a .health; commands = commandPlaces (λ p. old p || planned next p) })
     (withBuffer (λ bytes. written (sheetOf [] (closing (state .ring .n) old (plan (state .ring .n) (healthOf (next .health))))) bytes) reply)))
+
+-- ---- locks (document 02, Note 7)
+
+-- word 4, and word 5
+unfoldable pub isLock : Word → Bool
+isLock Fit = false
+isLock StuckOff = false
+isLock StuckOpen = false
+isLock StuckClosed = false
+isLock Lock = true
+isLock Unlock = false
+
+unfoldable pub isUnlock : Word → Bool
+isUnlock Fit = false
+isUnlock StuckOff = false
+isUnlock StuckOpen = false
+isUnlock StuckClosed = false
+isUnlock Lock = false
+isUnlock Unlock = true
+
+-- serves a step with some words by other reports
+unfoldable pub tellingInstead : (Report → Bool) → (Report → List Report) → Controller
+tellingInstead which f = stepSpoilt (λ state r buffer reply. cond (which r) (servedBy (toldState state (f r)) buffer) reply)
+
+-- a lock is forgotten at the next report
+unfoldable pub forgetsLocks : Controller
+forgetsLocks =
+    stepSpoilt (λ state r buffer reply.
+    cond (isLock (r .word)) reply (whenServed (λ right. servedBy (toldState (ofRing unlockedRing state) (r ∷ [])) buffer) reply))
+
+-- a lock makes the generator stuck off for good
+unfoldable pub locksForGood : Controller
+locksForGood = tellingInstead (λ r. isLock (r .word)) (λ r. record { part = r .part; word = StuckOff } ∷ [])
+
+-- an unlock that mends
+unfoldable pub unlockMends : Controller
+unlockMends = tellingInstead (λ r. isUnlock (r .word)) (λ r. r ∷ record { part = r .part; word = Fit } ∷ [])
+
+-- a replaced set that does not remain locked
+unfoldable pub replacedUnlocked : Controller
+replacedUnlocked = tellingInstead isReturn (λ r. r ∷ record { part = r .part; word = Unlock } ∷ [])
+
+-- refuses locks; passes over those of a scan
+unfoldable pub refusesLocks : Controller
+refusesLocks = stepSpoilt (λ state r buffer reply. cond (isLock (r .word)) (refusedBy 6 state buffer) reply)
+
+unfoldable pub passesLocksInScans : Controller
+passesLocksInScans = scanServingBy (λ s. keep (λ r. not (isLock (r .word))) (scanReports s))

@@ -1,6 +1,6 @@
--- Wrong designs: those that document 01 holds against the contracts, its classroom errors, and closing phases in another order than Note 4's of
--- document 02.
-use mathlib.Core.Bool.{not, _&&_, cond}
+-- Wrong designs: those that document 01 holds against the contracts, its classroom errors, and of document 02 closing phases in another order
+-- than Note 4's and choosing without Note 7's locks.
+use mathlib.Core.Bool.{false, not, _&&_, cond}
 use mathlib.Core.List.{List, [], _∷_, _++_, map, flatMap, reverse}
 use mathlib.Core.Option.{none}
 use Prim.Native.Nat.{ℕ, zero, suc, _+_}
@@ -88,7 +88,8 @@ wavesExchanged = writing (λ xs ys. length ys ∷ length xs ∷ closingsFirst xs
 
 -- "A stuck-closed breaker counted as open because it was ordered open."
 unfoldable pub stuckClosedOpen : Design
-stuckClosedOpen = planningFor (λ n H p. cond (stuckClosed (H .health p)) 0 (H .health p))
+stuckClosedOpen =
+    planningFor (λ n H. record { health = λ p. cond (stuckClosed (H .health p)) 0 (H .health p); locked = H .locked })
 
 -- "A way that takes in the breaker behind its end bus": a rising path from another generator takes the breaker after its bus
 unfoldable pub breakerBehind : Design
@@ -120,3 +121,9 @@ listsStanding = ordering (λ n old each. firstOccurrences (flatMap each (below n
 -- buses in falling order
 unfoldable pub busesBackwards : Design
 busesBackwards = ordering (λ n old each. keep (λ p. not (old p)) (firstOccurrences (flatMap each (reverse (below n)))))
+
+-- ---- locks (document 02, Note 7)
+
+-- "A generator under maintenance must never start": one that chooses without looking at the locks
+unfoldable pub locksUnread : Design
+locksUnread = planningFor (λ n H. record { health = H .health; locked = λ g. false })

@@ -6,8 +6,8 @@ use mathlib.Core.List.{List, [], _∷_, _++_, flatMap, Permᴰ·refl}
 use Prim.Native.Nat.{ℕ}
 use native.Mathlib.Omega.{arith}
 use lib.ListN.{take, replicate}
-use Rattle.model.specs.declared.Part.the-variants.{Generator, BusBreaker}
-use Rattle.model.specs.declared.Word.the-variants.{StuckOff, Fit, StuckOpen}
+use Rattle.model.specs.declared.Part.the-variants.{Generator, GeneratorBreaker, BusBreaker}
+use Rattle.model.specs.declared.Word.the-variants.{StuckOff, Fit, StuckOpen, Lock, Unlock}
 use Rattle.model.specs.declared.Report.{Report}
 use Rattle.model.specs.declared.Scan.{Scan}
 use Rattle.model.specs.declared.Feed.the-variants as feed
@@ -48,6 +48,7 @@ use Rattle.model.specs.Refusals.{
   sizeOutside,
   healthOutside,
   activeAbove,
+  lockedAbove,
   unplanned,
   badRing,
   countAbove,
@@ -143,6 +144,7 @@ use Rattle.demands.specs.Refuting.Claims.{
   litByAnother,
   darkThoughFed,
   otherHealth,
+  otherLock,
   otherCommand,
   unfitAbove,
   onAbove,
@@ -242,6 +244,7 @@ use Rattle.wrong.specs.Designs.{
   listsTwice,
   listsStanding,
   busesBackwards,
+  locksUnread,
 }
 use Rattle.wrong.specs.Controllers.{
   sheetWith,
@@ -284,6 +287,17 @@ use Rattle.wrong.specs.Controllers.{
   keepsOffInScans,
   passesReturned,
   leavesOrders,
+  unlockedRing,
+  lockAbove,
+  isLock,
+  isUnlock,
+  tellingInstead,
+  forgetsLocks,
+  locksForGood,
+  unlockMends,
+  replacedUnlocked,
+  refusesLocks,
+  passesLocksInScans,
 }
 
 -- ---- the calls that show it
@@ -474,11 +488,46 @@ wrongOrders =
     (scan (scanOf (generator3Fit ∷ [])) fullRoom))
     ∷ []
 
+-- G2 locked, and unlocked; BB1 locked, a word that no breaker has
+abbrev generator2Lock : Report
+generator2Lock = report (Generator 2) Lock
+
+abbrev generator2Unlock : Report
+generator2Unlock = report (Generator 2) Unlock
+
+abbrev breaker1Lock : Report
+breaker1Lock = report (BusBreaker 1) Lock
+
+-- locks: forgotten at the next report; that make the generator stuck off for good; read nowhere in choosing; an unlock that mends; a
+-- replaced set that is unlocked; words 4 and 5 refused, or served for a breaker; a part above n that is locked
+unfoldable pub wrongLocks : List Row3
+wrongLocks =
+    row forgetsLocks claim.locked (after (generator2Lock ∷ []) breaker1Open)
+    ∷ row forgetsLocks claim.choices-are (after (generator2Lock ∷ []) breaker1Open)
+    ∷ row locksForGood claim.health (after [] generator2Lock)
+    ∷ row locksForGood claim.locked (after [] generator2Lock)
+    ∷ row locksForGood claim.choices-are (after (generator2Lock ∷ []) generator2Unlock)
+    ∷ row (designController locksUnread) claim.choices-are (after [] generator2Lock)
+    ∷ row (designController locksUnread) claim.energized (after [] generator2Lock)
+    ∷ row unlockMends claim.health (after (generator2Lock ∷ generator2Off ∷ []) generator2Unlock)
+    ∷ row unlockMends claim.choices-are (after (generator2Lock ∷ generator2Off ∷ []) generator2Unlock)
+    ∷ row replacedUnlocked claim.locked (after (generator2Off ∷ generator2Lock ∷ []) generator2Fit)
+    ∷ row replacedUnlocked claim.energized (after (generator2Off ∷ generator2Lock ∷ []) generator2Fit)
+    ∷ row refusesLocks claim.only (after [] generator2Lock)
+    ∷ row servesReports claim.always (after [] breaker1Lock)
+    ∷ row servesReports claim.always (after [] (report (GeneratorBreaker 1) Unlock))
+    ∷ row passesLocksInScans claim.locked (scanning (scanOf (generator2Lock ∷ [])))
+    ∷ row passesLocksInScans claim.choices-are (scanning (scanOf (generator2Lock ∷ breaker2Open ∷ [])))
+    ∷ row (stepServing (withRing lockAbove)) claim.locked-above (after [] breaker2Open)
+    ∷ row (stepRefusing (withRing unlockedRing)) claim.record-kept (after (generator2Lock ∷ []) generator4Off)
+    ∷ []
+
 -- all of them
 unfoldable pub wrongs3 : List Row3
 wrongs3 =
     wrongDesigns
-    ++ (wrongStarts ++ (wrongRefusals ++ (wrongSteps ++ (wrongMoments ++ (wrongScanRefusals ++ (wrongScans ++ (wrongReturns ++ wrongOrders)))))))
+    ++ (wrongStarts
+    ++ (wrongRefusals ++ (wrongSteps ++ (wrongMoments ++ (wrongScanRefusals ++ (wrongScans ++ (wrongReturns ++ (wrongOrders ++ wrongLocks))))))))
 
 -- ---- demand 2: likewise
 
@@ -506,6 +555,9 @@ wrongs2 =
     ∷ row2 (designController listsTwice) claim.closes-outward (after allFailed generator2Fit)
     ∷ row2 (designController listsStanding) claim.closes-outward (after [] breaker2Open)
     ∷ row2 (designController busesBackwards) claim.closes-outward (after (generator3Off ∷ generator2Off ∷ generator1Off ∷ []) generator3Fit)
+    ∷ row2 (designController locksUnread) claim.call-path (after [] generator2Lock)
+    ∷ row2 forgetsLocks claim.call-path (after (generator2Lock ∷ []) breaker1Open)
+    ∷ row2 locksForGood claim.call-path (after (generator2Lock ∷ []) generator2Unlock)
     ∷ []
 
 -- ---- the order of operations
@@ -551,12 +603,12 @@ unfolding below keep first anyOf allOf partCode samePart parts healthOfKind next
     sources pathBusBreakers pathBreakers pathParts highRises pathsFrom paths onPaths usable countedClosed isolated permitted choose
     addPath chosen plan commands choiceOf choices opening firstOccurrences partsOf sequence closing sheetOf sheet written partNamed reported places healthOf commandsOf
     healthPlaces commandPlaces blankRing told planned withPlan firstMet sizeOutside notOfRing wordOfOtherKind tooShort
-    healthOutside activeAbove unplanned badRing nextSheet reportConditions startRefusal stepRefusal allDark refusedState
+    healthOutside activeAbove lockedAbove unplanned badRing nextSheet reportConditions startRefusal stepRefusal allDark refusedState
     servedState stateStart stateStep afterWord afterWords perform performAll commandNamed withOperation operations phasesAt
     decode excepted wordRefusal earlier ordered bothPhases worldAfter afterCall run sum digest ringSum choiceNumber choicesSum
     operationNumber operationsDigest isDark feedNumber isClash onWorld onPhases due refusedInVain notRefused recordChanged bufferChanged
-    choicesLit behindChanged lengthChanged darkThoughReached litThoughUnreached litByAnother darkThoughFed otherHealth otherCommand
-    unfitAbove onAbove anyClash otherChoice newCommands otherFirst otherSecond clashInFirst clashInSecond startOf firstReply startDue
+    choicesLit behindChanged lengthChanged darkThoughReached litThoughUnreached litByAnother darkThoughFed otherHealth otherLock otherCommand
+    unfitAbove claim.lockAbove onAbove anyClash otherChoice newCommands otherFirst otherSecond clashInFirst clashInSecond startOf firstReply startDue
     atCall atServed atPhases atStart atEnd atLast atEither fails3 designCommands designSheet designChoices designServed designBad designStart designStep
     designController right chosenBy trying planningFor writing allBusesDark givesUp emptyPhases repeatsStart onePlan miscounts
     closingsFirst oneWave wavesExchanged stuckClosedOpen breakerBehind highFirst startSpoilt stepSpoilt whenRefused whenServed withRing
@@ -569,7 +621,8 @@ unfolding below keep first anyOf allOf partCode samePart parts healthOfKind next
     wrongScans goodFront servesBeforeBad returnOf refusesReturns refusesReturnsInScans keepsOff keepsOffInScans passesReturned leavesOrders
     wrongReturns quietWhileOff partsBy rightOrder walking ordering closesByCode closesInward listsTwice listsStanding busesBackwards wrongOrders
     unloaded toldState reckoned badRecord stateRefusal noLoad totalWatts wattsOf withFigures liveTwice bookingOutside otherFigures badLoad
-    stateSum bookingsDigest loadDigest designReckoned ofRing withState wrongs3
+    stateSum bookingsDigest loadDigest designReckoned ofRing withState locksUnread isLock isUnlock tellingInstead forgetsLocks locksForGood
+    unlockMends replacedUnlocked refusesLocks passesLocksInScans wrongLocks wrongs3
 computed = record {
   refuted-3 = refl;
   refuted-2 = refl;

@@ -42,6 +42,7 @@ use Rattle.model.specs.Refusals.{
   sizeOutside,
   healthOutside,
   activeAbove,
+  lockedAbove,
   unplanned,
   badRing,
   busOutside,
@@ -306,7 +307,7 @@ unfolding below keep first anyOf allOf partCode samePart parts healthOfKind next
     sources pathBusBreakers pathBreakers pathParts highRises pathsFrom paths onPaths usable countedClosed isolated permitted choose
     addPath chosen plan commands choiceOf choices opening firstOccurrences partsOf sequence closing sheetOf sheet written partNamed reported
     places healthOf commandsOf healthPlaces commandPlaces blankRing told planned withPlan firstMet sizeOutside notOfRing wordOfOtherKind tooShort
-    healthOutside activeAbove unplanned badRing nextSheet reportConditions startRefusal stepRefusal allDark refusedState servedState stateStart
+    healthOutside activeAbove lockedAbove unplanned badRing nextSheet reportConditions startRefusal stepRefusal allDark refusedState servedState stateStart
     stateStep afterWord afterWords perform performAll commandNamed withOperation operations phasesAt decode wordRefusal ordered bothPhases
     worldAfter afterCall run sum digest ringSum choiceNumber choicesSum onWorld due refusedInVain notRefused recordChanged otherChoice
     startOf startDue atCall atServed fails3 startSpoilt stepSpoilt whenRefused whenServed withChoices fullRoom starting stepRefusing
