@@ -2,7 +2,7 @@
 use mathlib.Core.Path.{_≡_, refl, ap}
 use mathlib.Core.Bool.{true, false, _||_, cond}
 use mathlib.Core.Logic.{_⊎_, inl, inr}
-use mathlib.Core.List.{[], _∷_, List·Memᴰ·not-nil}
+use mathlib.Core.List.{[], _∷_, List·Memᴰ·head, List·Memᴰ·not-nil}
 use mathlib.Core.Option.{none, some}
 use native.Mathlib.Omega.{arith}
 use lib.Dec.{eqb}
@@ -45,6 +45,7 @@ use Rattle.demands.specs.Statements.Demand3.{
   fedByNone,
 }
 use Rattle.demands.specs.Statements.Returns.{none-returns, returns, unlocks, ByOperationAlone}
+use Rattle.demands.specs.Statements.Locks.{NoneOrderedOn, NoneStandsOn}
 
 -- a report of a part and a word
 abbrev pub report : Part → Word → Report
@@ -194,3 +195,15 @@ unlock-feeds-refuted b =
     let lit : Fed 1 ≡ Dark = b .fed-as-before (report (Generator 1) Unlock ∷ []) (unlocks 1 none-returns) 0 (omega arith) in
     let sources = ap (λ f. length (feedSources f)) lit in
     omega (arith, sources)
+
+-- ---- a plant in which a locked generator is ordered on does not have what is claimed of locks
+
+-- by an order of either wave
+ordered-on-refuted : (NoneOrderedOn waitingLocked (record { first = operation true (Generator 1) ∷ []; second = [] }) → ⊥)
+    × (NoneOrderedOn waitingLocked (record { first = []; second = operation true (Generator 1) ∷ [] }) → ⊥)
+ordered-on-refuted = (λ off. off 0 refl (List·Memᴰ·head refl), λ off. off 0 refl (List·Memᴰ·head refl))
+
+-- by what stands
+stands-on-refuted : NoneStandsOn 3 waitingLocked → ⊥
+unfolding samePart
+stands-on-refuted off = contra refl (off 0 (omega arith) refl)

@@ -30,19 +30,30 @@ use Rattle.demands.specs.Statements.Demand3.{
   Interrupted,
 }
 
--- ---- a locked generator, in a list of calls
+-- ---- a locked generator
 
+-- it does not run
+abbrev pub NoneRuns : PlantState → Type 0
+NoneRuns P = (g : ℕ) → P .health .locked g ≡ true → running (P .health) (P .last) g ≡ false
+
+-- .. and not by its lock alone: no wave orders it on
+abbrev pub NoneOrderedOn : PlantState → Phases → Type 0
+NoneOrderedOn P ph = (g : ℕ) → P .health .locked g ≡ true → operation true (generator g) ∈ ph .first ++ ph .second → ⊥
+
+-- it stands ordered off
+abbrev pub NoneStandsOn : ℕ → PlantState → Type 0
+NoneStandsOn n P = (g : ℕ) → g < n → P .health .locked g ≡ true → P .last (generator g) ≡ false
+
+-- "A generator under maintenance must never start.": of a list of calls
 pub record NeverStarts (c : Controller) (n : ℕ) (buffer : List ℕ) (calls : Calls) : Type 0 where
-  -- wherever anyone halts the orders, at an excepted moment too, no locked generator runs
-  pub not-running : {P : PlantState} {e : Bool} → Interrupted c n buffer calls P e → (g : ℕ) → P .health .locked g ≡ true
-      → running (P .health) (P .last) g ≡ false
-  -- .. and not for its lock alone: no wave of a call orders on a generator that is locked after the call's words
+  -- wherever anyone halts the orders, at an excepted moment too
+  pub not-running : {P : PlantState} {e : Bool} → Interrupted c n buffer calls P e → NoneRuns P
+  -- the orders of a call, for the plant after its words
   pub not-ordered : {before : Calls} {W : World} (call : Call) {ph : Phases} → Begins (before then call) calls → Ended c n buffer before W
       → isServed (replyTo c (W .state) call) ≡ true → decode n (replyTo c (W .state) call .buffer) ≡ some ph
-      → (g : ℕ) → afterWords (words call) (W .plant) .health .locked g ≡ true → operation true (generator g) ∈ ph .first ++ ph .second → ⊥
-  -- when the orders have ended, it stands ordered off
-  pub ordered-off : {before : Calls} {W : World} → Begins before calls → Ended c n buffer before W → (g : ℕ) → g < n
-      → W .plant .health .locked g ≡ true → W .plant .last (generator g) ≡ false
+      → NoneOrderedOn (afterWords (words call) (W .plant)) ph
+  -- when the orders have ended
+  pub ordered-off : {before : Calls} {W : World} → Begins before calls → Ended c n buffer before W → NoneStandsOn n (W .plant)
 
 -- ---- words
 

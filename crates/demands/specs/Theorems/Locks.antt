@@ -3,7 +3,7 @@
 use mathlib.Core.Path.{_≡_, refl, _∙_}
 use mathlib.Core.Bool.{Bool, true, false, _&&_, cond}
 use mathlib.Core.Logic.{_⊎_, inl, inr}
-use mathlib.Core.List.{List, [], _∷_, _++_, map, List·Memᴰ·head, List·Memᴰ·tail, List·Memᴰ·append-cases}
+use mathlib.Core.List.{List, [], _∷_, map, List·Memᴰ·head, List·Memᴰ·tail, List·Memᴰ·append-cases}
 use mathlib.Core.Option.{some}
 use Prim.Native.Nat.{ℕ}
 use Rattle.model.specs.declared.Part.{Part}
@@ -39,6 +39,7 @@ use Rattle.demands.specs.Statements.Demand3.{
   Demand3,
 }
 use Rattle.demands.specs.Statements.Locks.{
+  NoneOrderedOn,
   NeverStarts,
   AboutLock,
   lock,
@@ -73,19 +74,19 @@ locked-off n H g e = go (dec (commands n H (generator g)))
     go (inr c) = c
 
 -- no wave for a plant orders it on
-none-ordered : (n : ℕ) (P : PlantState) (g : ℕ) → P .health .locked g ≡ true → (ph : Phases)
+none-ordered : (n : ℕ) (P : PlantState) (ph : Phases)
     → ph .first ≡ map (operation false) (opening n (P .last) (commands n (P .health)))
     → ph .second ≡ map (operation true) (closing n (P .last) (plan n (P .health)))
-    → operation true (generator g) ∈ ph .first ++ ph .second → ⊥
-none-ordered n P g e ph first second m = go (List·Memᴰ·append-cases (ph .first) m)
+    → NoneOrderedOn P ph
+none-ordered n P ph first second g e m = go (List·Memᴰ·append-cases (ph .first) m)
   where
+    on-is : {p : Part} → operation true (generator g) ≡ operation false p → true ≡ false
+    on-is q = λ i. q i .command
+
     go : (operation true (generator g) ∈ ph .first) ⊎ (operation true (generator g) ∈ ph .second) → ⊥
     go (inl k) =
         let t = map-at (operation false) (opening n (P .last) (commands n (P .health))) (rw first at k) in
         contra refl (on-is (t .2))
-      where
-        on-is : {p : Part} → operation true (generator g) ≡ operation false p → true ≡ false
-        on-is q = λ i. q i .command
     go (inr k) =
         let t = map-at (operation true) (closing n (P .last) (plan n (P .health))) (rw second at k) in
         let part : generator g ≡ t .0 = λ i. t .2 i .part in
@@ -95,20 +96,18 @@ pub never-starts : {c : Controller} → Demand3 c → (n : ℕ) (buffer : List �
     → NeverStarts c n buffer calls
 never-starts {c} meets n buffer begun calls = record {
   not-running = λ {P} i g e. rw (locked-unfit (P .health) g e);
-  not-ordered = λ {W = W} call {ph} b h s d g e. ordered W call ph d g e (meets .holds n buffer begun calls .chosen call b h s);
+  not-ordered = λ {W = W} call {ph} b h s d. ordered W call ph d (meets .holds n buffer begun calls .chosen call b h s);
   ordered-off =
       λ {W = W} b h g hg e.
       ended-planned meets n buffer begun h (generator g) (at-index n g hg) ∙ locked-off n (W .plant .health) g e;
 }
   where
     ordered : (W : World) (call : Call) (ph : Phases) → decode n (replyTo c (W .state) call .buffer) ≡ some ph
-        → (g : ℕ) → afterWords (words call) (W .plant) .health .locked g ≡ true
         → AsChosen n (afterWords (words call) (W .plant)) (replyTo c (W .state) call)
-        → operation true (generator g) ∈ ph .first ++ ph .second → ⊥
-    ordered W call ph d g e a =
+        → NoneOrderedOn (afterWords (words call) (W .plant)) ph
+    ordered W call ph d a =
         let same : a .phases ≡ ph = same-phases (a .decodes) d in
-        none-ordered n (afterWords (words call) (W .plant)) g e ph
-        (rw same at (a .first-is)) (rw same at (a .second-is))
+        none-ordered n (afterWords (words call) (W .plant)) ph (rw same at (a .first-is)) (rw same at (a .second-is))
 
 -- ---- neither lock nor health alters the other
 

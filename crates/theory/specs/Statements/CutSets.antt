@@ -8,7 +8,7 @@ use Prim.Native.Nat.{ℕ, _≤_, _<_}
 use lib.ListN.{length}
 use Rattle.model.specs.declared.Part.{Part}
 use Rattle.model.specs.declared.Part.the-variants.{Generator, GeneratorBreaker, BusBreaker}
-use Rattle.model.specs.declared.Word.the-variants.{StuckOff, StuckOpen, StuckClosed}
+use Rattle.model.specs.declared.Word.the-variants.{StuckOff, StuckOpen, StuckClosed, Lock}
 use Rattle.model.specs.declared.Report.{Report}
 use Rattle.model.specs.Lists.{_∈_, RisingBy, Distinct}
 use Rattle.model.specs.Values.{index, partCode}
@@ -96,6 +96,18 @@ worked =
     ∷ record { part = BusBreaker 1; word = StuckClosed }
     ∷ [])
     ((0 ∷ []) ∷ (32 ∷ []) ∷ (64 ∷ 65 ∷ []) ∷ (64 ∷ 66 ∷ []) ∷ [])
+    -- G3 locked (document 02, Note 7): a locked generator is not fit, and in no set; its breaker is on no path
+    ∷ example 3 (record { part = Generator 3; word = Lock } ∷ [])
+    ((0 ∷ 1 ∷ [])
+    ∷ (0 ∷ 33 ∷ [])
+    ∷ (1 ∷ 32 ∷ [])
+    ∷ (32 ∷ 33 ∷ [])
+    ∷ (65 ∷ 66 ∷ [])
+    ∷ (0 ∷ 64 ∷ 65 ∷ [])
+    ∷ (1 ∷ 64 ∷ 66 ∷ [])
+    ∷ (32 ∷ 64 ∷ 65 ∷ [])
+    ∷ (33 ∷ 64 ∷ 66 ∷ [])
+    ∷ [])
     -- all generators off: "A bus already dark has one set, the empty one."
     ∷ example 3
     (record { part = Generator 1; word = StuckOff }
