@@ -2,7 +2,7 @@
 -- has its wrong controller, those about bookings in the crate `wrong_bookings`.
 use mathlib.Core.Path.{_≡_, refl}
 use mathlib.Core.Bool.{Bool, true, false, not, _&&_}
-use mathlib.Core.List.{List, [], _∷_, _++_, flatMap, Permᴰ·refl}
+use mathlib.Core.List.{List, [], _∷_, _++_, flatMap, List·Memᴰ·head, List·Memᴰ·tail, Permᴰ·refl}
 use Prim.Native.Nat.{ℕ}
 use native.Mathlib.Omega.{arith}
 use lib.ListN.{take, replicate}
@@ -76,12 +76,14 @@ use Rattle.model.specs.States.{
   stateScan,
   refusedState,
 }
+use Rattle.model.specs.Laws.Tests.{contra}
 use Rattle.model.specs.Laws.Refusals.{served-refused}
 use Rattle.demands.specs.Statements.Demand3.{
   PlantState,
   decode,
   step,
   scan,
+  Calls,
   nothing,
   _then_,
   whole,
@@ -105,6 +107,7 @@ use Rattle.demands.specs.Statements.Demand3.{
   wordRefusal,
 }
 use Rattle.demands.specs.Statements.Demand2.{earlier, Demand2}
+use Rattle.demands.specs.Statements.Locks.{NeverStarts}
 use Rattle.demands.specs.Controller.{controller}
 use Rattle.demands.specs.Proofs.Answering.{fullRoom, callNumber}
 use Rattle.demands.specs.Refuting.Claims as claim
@@ -575,6 +578,12 @@ clashesNowhere k =
 unfoldable pub quietWhileOff : Claim3 → Bool
 quietWhileOff k = not (fails3 leavesOrders (after [] generator1Off) k)
 
+-- ---- a locked generator that starts
+
+-- G3 locked and G1 failed: by the design that reads no locks G3 starts when G2 fails too
+unfoldable pub serviceVisit : Calls
+serviceVisit = callsOf (generator1Off ∷ report (Generator 3) Lock ∷ [])
+
 -- ---- what is computed
 
 -- every computed fact about these controllers
@@ -596,6 +605,10 @@ record Computed : Type 0 where
   exception-needed-in-scan : (P : PlantState)
       × Interrupted controller 3 fullRoom (nothing then scan twoFaults fullRoom) P true
       × (busFeed 3 (P .health) (P .last) 0 ≡ feed.Clash 1 2)
+  -- "A generator under maintenance must never start.": it starts, by an order of the second wave; and it stands on
+  started-though-locked :
+      NeverStarts (designController locksUnread) 3 fullRoom (serviceVisit then step generator2Off fullRoom) → ⊥
+  stands-though-locked : NeverStarts (designController locksUnread) 3 fullRoom (nothing then step generator2Lock fullRoom) → ⊥
 
 -- by one evaluation
 computed : Computed
@@ -622,7 +635,7 @@ unfolding below keep first anyOf allOf partCode samePart parts healthOfKind next
     wrongReturns quietWhileOff partsBy rightOrder walking ordering closesByCode closesInward listsTwice listsStanding busesBackwards wrongOrders
     unloaded toldState reckoned badRecord stateRefusal noLoad totalWatts wattsOf withFigures liveTwice bookingOutside otherFigures badLoad
     stateSum bookingsDigest loadDigest designReckoned ofRing withState locksUnread isLock isUnlock tellingInstead forgetsLocks locksForGood
-    unlockMends replacedUnlocked refusesLocks passesLocksInScans wrongLocks wrongs3
+    unlockMends replacedUnlocked refusesLocks passesLocksInScans wrongLocks serviceVisit wrongs3
 computed = record {
   refuted-3 = refl;
   refuted-2 = refl;
@@ -640,6 +653,13 @@ computed = record {
         (in-first [] (Permᴰ·refl _)),
     refl,
   );
+  started-though-locked = λ off.
+      off .not-ordered (step generator2Off fullRoom) whole (run-ended (designController locksUnread) false 3 fullRoom serviceVisit _ refl) refl
+      refl 2 refl (List·Memᴰ·tail (List·Memᴰ·tail (List·Memᴰ·tail (List·Memᴰ·head refl))));
+  stands-though-locked = λ off.
+      contra refl
+      (off .ordered-off whole
+      (run-ended (designController locksUnread) false 3 fullRoom (nothing then step generator2Lock fullRoom) _ refl) 1 (omega arith) refl);
 }
 
 -- ---- no wrong controller meets a demand
