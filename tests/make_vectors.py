@@ -8,10 +8,10 @@
 
 runs    fault files and their printed runs: for each 2 bytes length of the file, low byte first, the file, the text, and a
         byte 0.
-plant   reckonings: n, 60 healths, 60 commands; then the number of the outcome and for each of 20 buses three bytes: 0 dark,
-        1 fed, 2 a clash, and the generators named.
-record  n, 60 healths, 60 commands, and the load: how many bookings are live, 64 places of seven bytes each, a booking's number (2
-        bytes), bus and watts (4 bytes), the watts of 20 generators and those on dark buses (4 bytes each), every number low byte first.
+plant   reckonings: n, 60 healths, 20 locks (1 is locked), 60 commands; then the number of the outcome and for each of 20 buses three
+        bytes: 0 dark, 1 fed, 2 a clash, and the generators named.
+record  n, 60 healths, 20 locks, 60 commands, and the load: how many bookings are live, 64 places of seven bytes each, a booking's number
+        (2 bytes), bus and watts (4 bytes), the watts of 20 generators and those on dark buses (4 bytes each), every number low byte first.
 step    starts and steps with damaged records and short buffers: the record, behind its n a byte, 255 for a start, the report's kind,
         number and word, the buffer's length; then the number of the outcome, the record, for each of 20 buses the letter and source
         of its choice, and the buffer, which held 170 in every byte.
@@ -45,8 +45,8 @@ import ringsim as rs  # noqa: E402
 CRATES = os.path.join(HERE, "..", "crates")
 KINDS = (rs.GENERATOR, rs.GENERATOR_BREAKER, rs.BUS_BREAKER)
 
-# The rules that are built: document 01's with Notes 3 to 6 of document 02. Notes 1 and 2 add calls, and have no switch.
-RULES = rs.Rules(note3=True, note4=True, note5=True, note6=True)
+# The rules that are built: document 01's with Notes 3 to 7 of document 02. Notes 1 and 2 add calls, and have no switch.
+RULES = rs.Rules(note3=True, note4=True, note5=True, note6=True, note7=True)
 
 
 def under(rules, *modules):
@@ -82,9 +82,8 @@ def examples():
 
 
 def single_and_double_faults():
-    """A ring of five, Figures 21 and 22 of document 004: every single fault, and every third double fault."""
-    faults = [(c, w) for c in rs.codes_of_ring(5) for w in range(4)
-              if sim.report_refusal(5, rs.report_of(c, w)) == 0 and w]
+    """A ring of five, Figures 21 and 22 of document 004: every single fault, and every third double fault; a lock is one too."""
+    faults = [(c, w) for c in rs.codes_of_ring(5) for w in range(1, 5) if sim.report_refusal(5, rs.report_of(c, w)) == 0]
     yield from (fault_file(5, [f]) for f in faults)
     yield from (fault_file(5, list(pair)) for pair in list(itertools.combinations(faults, 2))[::3])
 
@@ -125,6 +124,56 @@ def returned_generators():
     """What Note 3 of document 02 speaks of: "word 0 makes a generator fit again"."""
     for n in (3, 4, 5, 20):
         yield from (fault_file(n, pairs) for pairs in returns_in(n))
+
+
+def locks_beside_stuck_breakers(n, k):
+    """Lists of reports in which Gk is locked and unlocked where breakers around it are stuck."""
+    lock, unlock = (rs.code_of("G", k), 4), (rs.code_of("G", k), 5)
+    all_locked, others = [(code, 4) for code in range(n)], [code for code in range(n) if code != lock[0]]
+    own, *both = breakers_around(n, k)
+    for breaker, word in itertools.product((own, *both), (2, 3)):
+        yield [(breaker, word), lock, unlock, (breaker, 0)]
+        yield all_locked + [(breaker, word), unlock, (breaker, 0)]
+    cut_off = [lock] + [(breaker, 2) for breaker in both]
+    yield cut_off + [unlock]                                    # the locked generator's own bus goes dark, and is lit again by it
+    yield cut_off + [(own, 2), unlock, (own, 0)]                # it stays dark: no way leads to it, until GBk comes back
+    yield cut_off + [(code, word) for code in others for word in (4, 5)]    # it stays dark, whichever other one is unlocked
+
+
+def locks_in(n):
+    """Lists of reports in a ring in which generators are locked and unlocked."""
+    lock, unlock, off, fit = ([(code, word) for code in range(n)] for word in (4, 5, 1, 0))
+    yield unlock                                                # each is unlocked already: two empty waves
+    yield from (lock + unlock, lock + unlock[::-1], lock + lock + unlock + unlock)      # all locked: all dark
+    yield lock + off + fit + unlock                             # replaced while locked: they stay out
+    yield lock + off + unlock + fit                             # failed while locked, and unlocked: they stay off
+    yield off + lock + fit + unlock
+    yield from ([lock[0], lock[1], unlock[1], unlock[0]], [lock[0], off[1], unlock[0], fit[1]], [off[0], lock[1], fit[0], unlock[1]])
+    for one_lock, one_unlock, one_off, one_fit in zip(lock, unlock, off, fit):
+        yield from ([one_lock, one_unlock], [one_lock, one_lock, one_unlock], [one_unlock, one_lock])
+        yield [one_lock, one_off, one_fit, one_unlock]          # a replaced set that is locked remains locked
+        yield [one_lock, one_off, one_unlock, one_fit]          # one that fails while it is locked stays off when it is unlocked
+        yield [one_off, one_lock, one_unlock, one_fit]
+        yield lock + [one_unlock]
+    for k in (1, 2, n):
+        yield from locks_beside_stuck_breakers(n, k)
+
+
+def bad_words(n):
+    """Words that a part does not take: those of the other kind, and those that there are not; and a part that is not there, for which they
+    are not looked at."""
+    breakers = [rs.code_of(kind, number) for kind in ("GB", "BB") for number in (1, n)]
+    yield from ((code, word) for code in (0, n - 1) for word in (2, 3, 6, 255))
+    yield from ((code, word) for code in breakers for word in (1, 4, 5, 6, 255))
+    yield from ((code, word) for code in (n, 32 + n, 64 + n) for word in (4, 5, 6))
+
+
+def locked_generators():
+    """What Note 7 of document 02 speaks of: "Word 4 locks it and word 5 unlocks it; both are for generators"."""
+    for n in (3, 4, 5, 20):
+        yield from (fault_file(n, pairs) for pairs in locks_in(n))
+        yield from (fault_file(n, [pair]) for pair in bad_words(n))
+        yield from (fault_file(n, [(0, 4), pair, (0, 5)]) for pair in ((32, 4), (64 + n - 1, 5), (1, 6)))   # nothing of it is served
 
 
 # Rings whose second waves are looked at, and the numbers of their sources and of the bus breakers that are stuck open.
@@ -181,8 +230,8 @@ def random_files(rng, count):
 
 
 def runs(rng):
-    for data in itertools.chain(examples(), single_and_double_faults(), returned_generators(), outward_files(), long_files(rng),
-                                random_files(rng, 250)):
+    for data in itertools.chain(examples(), single_and_double_faults(), returned_generators(), locked_generators(), outward_files(),
+                                long_files(rng), random_files(rng, 250)):
         text = sim.printed_run(data)
         yield len(data).to_bytes(2, "little") + data + text + b"\0"
 
@@ -200,6 +249,16 @@ def random_health(rng, n, spoil):
     return health
 
 
+def locks_on(numbers):
+    """Locks of twenty generators: those with these numbers are locked."""
+    return {code: rs.part_of_code(code).number in numbers for code in rs.GENERATOR_CODES}
+
+
+def random_locks(rng, n, share=.15):
+    """Locks of twenty generators: now and then one of the first n."""
+    return locks_on([number for number in range(1, n + 1) if rng.random() < share])
+
+
 def random_commands(rng, n):
     return {code: rs.part_of_code(code).number <= n and rng.random() < 0.6 for code in rs.ALL_CODES}
 
@@ -208,13 +267,39 @@ def places(values):
     return bytes(int(values[code]) for code in rs.ALL_CODES)
 
 
+def lock_places(locks):
+    return bytes(int(locks[code]) for code in rs.GENERATOR_CODES)
+
+
 FEED_NUMBER = {"dark": 0, "fed": 1, "clash": 2}
 
 
-def reckoning(n, health, commands):
-    number, answers = sim.reckon(n, health, commands)
+def plant_bytes(n, health, locks, commands):
+    return bytes([n]) + places(health) + lock_places(locks) + places(commands)
+
+
+def reckoning(n, health, locks, commands):
+    number, answers = sim.reckon(n, health, commands, locks)
     buses = b"".join(bytes([FEED_NUMBER[a[0]]] + list(a[1:]) + [0] * (3 - len(a))) for a in answers)
-    return bytes([n]) + places(health) + places(commands) + bytes([number]) + buses
+    return plant_bytes(n, health, locks, commands) + bytes([number]) + buses
+
+
+def locked_reckonings():
+    """A locked generator that is ordered on feeds nothing, stuck off or not; its breaker and the others do what they are ordered. Locks above
+    n are not read."""
+    all_on, none_on = ({code: on for code in rs.ALL_CODES} for on in (True, False))
+    for n in (3, 4, 5, 20):
+        apart = {**all_on, **{rs.code_of("BB", k): False for k in range(1, n + 1)}}       # each generator on its own bus
+        above = range(n + 1, 21)
+        sets = [[1], [2], [n], [1, 2], [1, 3], [2, 3], range(2, n + 1), range(1, n), range(1, n + 1), above, [1, *above], range(1, 21)]
+        for numbers, commands in itertools.product(sets, (all_on, apart)):
+            yield reckoning(n, health_with([]), locks_on(numbers), commands)
+        for faults in ([("G", 1, 1)], [("G", 2, 1)], [("GB", 1, 3), ("GB", 2, 2)], [("BB", k, 3) for k in range(1, n + 1)]):
+            yield from (reckoning(n, health_with(faults), locks_on([1]), commands) for commands in (all_on, apart, none_on))
+        yield reckoning(n, health_with([("G", 1, 2)]), locks_on([1]), apart)              # refused by 9
+        yield reckoning(n, health_with([("G", n, 4)]), locks_on([1]), apart)
+    for n in (0, 2, 21):                                                                  # refused by 2
+        yield reckoning(n, health_with([]), locks_on([1]), all_on)
 
 
 def plant(rng):
@@ -222,9 +307,10 @@ def plant(rng):
         n = rng.choice([3, 3, 4, 5, 8, 20]) if i % 10 else rng.choice([0, 1, 2, 21, 255])
         health = random_health(rng, min(n, 20), i % 4 == 0)
         commands = {c: True for c in rs.ALL_CODES} if i == 1 else random_commands(rng, 20)
-        yield reckoning(n, health, commands)
+        yield reckoning(n, health, random_locks(rng, 20), commands)
     # "n = 3, all fit, every part ordered on or closed: each bus a clash of G1 and G2"
-    yield reckoning(3, {c: 0 for c in rs.ALL_CODES}, {c: True for c in rs.ALL_CODES})
+    yield reckoning(3, {c: 0 for c in rs.ALL_CODES}, rs.no_locks(), {c: True for c in rs.ALL_CODES})
+    yield from locked_reckonings()
 
 
 # ---- records and their loads
@@ -249,7 +335,7 @@ def load_bytes(record, behind):
 
 
 def record_bytes(record, behind=BLANKS):
-    return bytes([record.n]) + places(record.health) + places(record.orders) + load_bytes(record, behind)
+    return plant_bytes(record.n, record.health, record.locks, record.orders) + load_bytes(record, behind)
 
 
 def behind_after(record, after, behind):
@@ -280,10 +366,23 @@ def one_a_bus(n):
     return [rs.Booking(1000 * bus, bus, 4000 * bus + bus * bus) for bus in range(1, n + 1)]
 
 
-def loaded(n, health=None, rng=None):
-    """The record that start and steps make for this health, with any bookings, or with one on each bus."""
+def loaded(n, health=None, rng=None, locks=None):
+    """The record that start and steps make for this health and these locks, with any bookings, or with one on each bus."""
     count = rng.choice([0, 1, 2, 3, 5, 8, 20, 64]) if rng else 0
-    return booked(sim.record_for(n, health), any_bookings(rng, n, count) if rng else one_a_bus(n))
+    return booked(sim.record_for(n, health, locks), any_bookings(rng, n, count) if rng else one_a_bus(n))
+
+
+def worn_record(rng, n):
+    """A record of a ring with any faults, any locks and any bookings."""
+    return loaded(n, worn_health(rng, n), rng, worn_locks(rng, n))
+
+
+def told(n, reports):
+    """The record after these reports, with a booking on each bus."""
+    record = rs.Record(n)
+    for kind, number, word in reports:
+        sim.take_word(record, report_on(kind, number, word))
+    return loaded(n, record.health, locks=record.locks)
 
 
 def any_behind(rng):
@@ -322,7 +421,7 @@ def steps(rng):
             yield bytes([n, 255]) + record_bytes(rs.refused_start_record())[1:] + bytes([0, 0, 0, room]) + answer_bytes(answer, buffer)
     for i in range(700):
         n = rng.choice([3, 3, 4, 5, 9, 20])
-        record = loaded(n, random_health(rng, n, False), rng)
+        record = loaded(n, random_health(rng, n, False), rng, random_locks(rng, n, rng.choice([0, .1, .3])))
         damage = i % 5
         if damage == 1:
             record.orders[rng.choice(rs.ALL_CODES)] ^= True
@@ -330,8 +429,10 @@ def steps(rng):
             record.health[rng.choice(rs.ALL_CODES)] = rng.choice([0, 1, 2, 3, 4])
         elif damage == 3 and i % 15 == 3:
             record.n = rng.choice([0, 2, 21, 200, n + 1])
+        elif damage == 4 and i % 10 == 4:
+            record.locks[rng.choice(rs.GENERATOR_CODES)] ^= True
         part = rs.Part(rng.choice(KINDS), rng.choice([0, 1, 2, 3, n, n, n + 1, 33, 255]) if i % 7 == 0 else rng.randint(1, n))
-        word = rng.randrange(4)
+        word = rng.randrange(6)
         room = rng.choice([0, 1, 2, 3, 4, 6, 8, 12, 122]) if i % 3 == 0 else 122
         yield stepped(record, part, word, room, now_and_then_behind(rng))
     # "report `65 2`, started ring of three, 5 bytes" is refused by 8; "6 bytes are enough"
@@ -359,6 +460,32 @@ def returning_steps(rng):
     for n in (3, 8):
         for record in damaged_records(n):
             yield from (stepped(record, rs.Part("G", g), 0, room) for g, room in ((1, 122), (n, 0), (n + 1, 1)))
+
+
+def locking_steps(rng):
+    """Words 4, 5, 0 and 1 for generators that are locked, stuck off, both and neither, in rings where all are, and where one is not, and in
+    rings with any faults and locks, each with a buffer as long as the sheet, now and then a byte shorter; numbers that the ring has not,
+    with words that a part does not take and good ones; and damaged records."""
+    for n in (3, 4, 5, 20):
+        for g in (1, 2, n):
+            locked, off = ("G", g, 4), ("G", g, 1)
+            all_locked = [("G", k, 4) for k in range(1, n + 1)]
+            own = cut_off(n, g)[1:]                             # the bus breakers of its own bus are stuck open
+            records = [told(n, reports) for reports in ([], [locked], [off], [off, locked], all_locked, all_locked + [("G", g, 5)],
+                                                        own, own + [locked])] + [worn_record(rng, n) for _ in range(3)]
+            for i, (record, word) in enumerate(itertools.product(records, (4, 5, 0, 1))):
+                length = scan_length(record, [report_on("G", g, word)])
+                yield from (stepped(record, rs.Part("G", g), word, room) for room in (length, length - 1)[:1 if i % 3 else 2])
+        for number, word in itertools.product((0, n + 1, 255), (2, 4, 5)):
+            yield stepped(loaded(n), rs.Part("G", number), word, 122)
+        for (kind, number), word, room in itertools.product((("GB", 1), ("BB", n), ("GB", n + 1)), (1, 4, 5), (122, 0)):
+            yield stepped(told(n, [("G", 2, 4)]), rs.Part(kind, number), word, room)
+    for n in (3, 8, 19):
+        for record in itertools.chain(locked_above(n, range(n + 1, 21)), records_at_odds_with_locks(n)):
+            yield stepped(record, rs.Part("G", 1), 5, 122)
+        for record in itertools.chain(locked_above(n, [n + 1]), records_at_odds_with_locks(n)):
+            yield from (stepped(record, rs.Part(kind, number), word, room)
+                        for kind, number, word, room in (("G", n + 1, 5, 122), ("BB", 1, 4, 122), ("G", 1, 4, 0), ("GB", n + 1, 4, 0)))
 
 
 def outward_steps():
@@ -413,9 +540,9 @@ def dark_by_near_ways(n, bus, health, locks, rules):
     return not any(rs.way_could_carry(way, health, locks, rules) for way in near_ways(n, bus, rules))
 
 
-def cut_sets(n, bus, health):
+def cut_sets(record, bus):
     """The minimal cut sets of a bus, as lists of codes."""
-    return sim.darkening_sets(n, bus, health, rs.no_locks(), is_dark=dark_by_near_ways)
+    return sim.darkening_sets(record.n, bus, record.health, record.locks, is_dark=dark_by_near_ways)
 
 
 def cut_case(record, bus, room, behind=BLANKS):
@@ -433,8 +560,8 @@ def started_cuts():
         yield from (cut_case(record, bus, 32) for bus in range(1, n + 1))
 
 
-def sheet_length(n, bus, health):
-    return len(rs.darkening_sheet(cut_sets(n, bus, health)))
+def sheet_length(record, bus):
+    return len(rs.darkening_sheet(cut_sets(record, bus)))
 
 
 def settled_cuts():
@@ -448,8 +575,25 @@ def settled_cuts():
             (4, 4, [("GB", 4, 3), ("BB", 3, 3), ("BB", 4, 3)], (0,)),                       # so can these three
             (20, 11, [("BB", 20, 2)] + many_off, ())):                                      # 264 sets: the high byte of the count
         record = loaded(n, health_with(faults))
-        sheet = sheet_length(n, bus, record.health)
+        sheet = sheet_length(record, bus)
         yield from (cut_case(record, bus, room) for room in (*others, sheet - 1, sheet, sheet + 1))
+
+
+def locked_cuts():
+    """Rings with locked generators, which are in no set: one of them, several, all, so that a bus is dark by locks; one that is stuck off too,
+    and one that was replaced; each bus with a buffer as long as its sheet, the last one with one a byte shorter too."""
+    for n in (3, 4, 5, 8):
+        all_locked, last_cut = [("G", k, 4) for k in range(1, n + 1)], cut_off(n, n)[1:]
+        for reports in ([("G", 1, 4)], [("G", n, 4)], [("G", 1, 4), ("G", 2, 4)], all_locked[1:], all_locked[:-1], all_locked,
+                        [("G", n, 4)] + last_cut,                                           # Bn is dark by a lock
+                        [("G", n, 4), ("G", n, 1), ("G", n, 0)] + last_cut,                 # and is so when the set is replaced
+                        [("G", n, 4), ("G", n, 1), ("G", n, 5)] + last_cut,                 # or unlocked while it is stuck off
+                        [("G", n, 4), ("G", n, 5)] + last_cut,                              # it hangs on its own generator again
+                        [("G", 1, 4), ("G", 2, 1), ("GB", 3, 2)], [("G", 2, 4), ("G", 2, 1), ("BB", 1, 3)]):
+            record = told(n, reports)
+            for bus in range(1, n + 1) if n < 8 else (1, 2, 5, 8):
+                sheet = sheet_length(record, bus)
+                yield from (cut_case(record, bus, room) for room in (sheet, sheet - 1)[:1 if bus < n else 2])
 
 
 def damaged_records(n):
@@ -460,6 +604,8 @@ def damaged_records(n):
     called_otherwise = [("G", 1, 1), ("GB", 2, 2), ("BB", 1, 3)]
     ordered_above = [("G", n + 1), ("GB", 20), ("BB", n + 1)]
     missing, too_many = [("G", 1), ("GB", 2), ("BB", 2)], [("G", n), ("GB", n), ("BB", 1)]
+    yield from locked_above(n, (n + 1, 20))
+    yield from records_at_odds_with_locks(n)
     for size in sizes:
         record = loaded(n)
         record.n = size
@@ -472,6 +618,27 @@ def damaged_records(n):
         record = loaded(n)
         record.orders[rs.code_of(kind, number)] ^= True
         yield record
+
+
+def with_locks(record, numbers, locked=True):
+    """A record with other locks, and everything else as it was."""
+    record.locks = {**record.locks, **{rs.code_of("G", number): locked for number in numbers}}
+    return record
+
+
+def locked_above(n, numbers):
+    """Records of a ring in which a part above n is locked."""
+    yield from (with_locks(loaded(n), [number]) for number in numbers)
+
+
+def records_at_odds_with_locks(n):
+    """Records whose standing orders, and figures, are those that health alone calls for, though a lock is set; and those of a ring with locks,
+    though one is cleared."""
+    all_locked = [("G", k, 4) for k in range(1, n + 1)]
+    for numbers in ([1], [2], range(1, n + 1)):
+        yield with_locks(loaded(n), numbers)
+    for reports, number in (([("G", 1, 4)], 1), ([("G", 2, 4)], 2), (all_locked, 1), (all_locked, n), ([("G", 1, 1), ("G", 2, 4)], 2)):
+        yield with_locks(told(n, reports), [number], False)
 
 
 def with_a_dark_bus(n):
@@ -545,12 +712,17 @@ def worn_health(rng, n):
     return health_with([(p.kind, p.number, rng.choice(rs.HEALTHS_OF_KIND[p.kind])) for p in parts if rng.random() < shares[p.kind]])
 
 
+def worn_locks(rng, n):
+    """Locks of a ring: none, few or many."""
+    return random_locks(rng, n, rng.choice([0, 0, .1, .5]))
+
+
 def worn_cuts(rng):
-    """Rings with any faults: buffers as long as the sheet, a byte shorter, longer and very short; now and then a record is damaged, or a
+    """Rings with any faults and locks: buffers as long as the sheet, a byte shorter, longer and very short; now and then a record is damaged, or a
     bus is outside the ring."""
     for n in [3, 4, 5, 6, 7, 8] * 50 + [9, 10, 11, 12, 13] * 6 + [14, 16, 20]:
-        record, bus = loaded(n, worn_health(rng, n), rng), rng.randint(1, n)
-        sheet = sheet_length(n, bus, record.health)
+        record, bus = worn_record(rng, n), rng.randint(1, n)
+        sheet = sheet_length(record, bus)
         if rng.random() < .05:
             record.orders[rng.choice(rs.ALL_CODES)] ^= True
         if rng.random() < .05:
@@ -560,7 +732,7 @@ def worn_cuts(rng):
 
 
 def cuts(rng):
-    return itertools.chain(settled_cuts(), refused_cuts(), worn_cuts(rng))
+    return itertools.chain(settled_cuts(), locked_cuts(), refused_cuts(), worn_cuts(rng))
 
 
 RINGS = (3, 4, 5, 8, 12, 20)
@@ -572,13 +744,13 @@ def report_on(kind, number, word):
 
 def any_report(rng):
     """A report on any part, with any number: most are bad."""
-    return report_on(rng.choice(KINDS), rng.choice([0, 1, 2, 3, rng.randrange(256)]), rng.randrange(4))
+    return report_on(rng.choice(KINDS), rng.choice([0, 1, 2, 3, rng.randrange(256)]), rng.randrange(6))
 
 
 def good_report(rng, n):
-    """A report that is served; generators and breakers go and come back."""
-    kind = rng.choice(["G", "GB", "GB", "BB", "BB"])
-    return report_on(kind, rng.randint(1, n), rng.choice([0, 0, 1] if kind == "G" else [0, 0, 2, 3]))
+    """A report that is served; generators and breakers go and come back, and generators are locked and unlocked."""
+    kind = rng.choice(["G", "G", "GB", "GB", "BB", "BB"])
+    return report_on(kind, rng.randint(1, n), rng.choice([0, 0, 1, 4, 5, 5] if kind == "G" else [0, 0, 2, 3]))
 
 
 def good_reports(rng, n, count):
@@ -588,8 +760,8 @@ def good_reports(rng, n, count):
 def bad_reports(rng, n):
     """A report of each flaw: two that are refused by 5 and two by 6."""
     inside = rng.randint(1, n)
-    return [report_on(rng.choice(KINDS), 0, rng.randrange(4)), report_on(rng.choice(KINDS), n + 1, rng.randrange(4)),
-            report_on("G", inside, rng.choice([2, 3])), report_on(rng.choice(["GB", "BB"]), inside, 1)]
+    return [report_on(rng.choice(KINDS), 0, rng.randrange(6)), report_on(rng.choice(KINDS), n + 1, rng.randrange(6)),
+            report_on("G", inside, rng.choice([2, 3])), report_on(rng.choice(["GB", "BB"]), inside, rng.choice([1, 4, 5]))]
 
 
 def with_report(reports, place, report):
@@ -635,7 +807,7 @@ def with_rooms(record, reports):
 def counted_scans(rng):
     """Each edge of the count; one above 64 is refused by 11, before bad reports and short buffers."""
     for n in RINGS:
-        record = loaded(n, worn_health(rng, n), rng)
+        record = worn_record(rng, n)
         for count in (0, 1, 2, 63, 64):
             yield from with_rooms(record, good_reports(rng, n, count))
         for count in (65, 128, 255):
@@ -713,6 +885,29 @@ def returning_scans():
             yield from with_rooms(loaded(n, health_with(faults)), [report_on(*report) for report in reports])
 
 
+def locking_scans():
+    """Scans that lock and unlock generators, as Note 7 of document 02 has it, and some with a lock for a breaker, which are refused."""
+    for n in (3, 4, 5, 20):
+        numbers = range(1, n + 1)
+        lock, unlock, off, fit = ([("G", k, word) for k in numbers] for word in (4, 5, 1, 0))
+        stuck = [("BB", k, 2 + k % 2) for k in numbers] + [("GB", 2, 3), ("GB", n, 2)]
+        in_turn = [("G", k % n + 1, (4, 1, 0, 5)[k // n % 4]) for k in range(64)]
+        for before, reports in (
+                ([], [lock[0], unlock[0]]), ([], lock + unlock), ([], [lock[1], lock[1], unlock[1]]),   # locked and unlocked in the cycle
+                ([], unlock), (stuck, [unlock[1]] * 2), (lock, lock),                      # as they were already
+                (lock[:2], [unlock[0], lock[0]]), (lock, unlock + lock),                   # unlocked, and locked in the cycle
+                ([], [off[0], lock[0]]), ([], [lock[0], off[0], unlock[0]]),               # locked after failing; failed while locked
+                (lock[:2] + off[:2], fit[:2]), (lock[:2] + off[:2], unlock[:2]), (lock + off, fit), (lock + off, unlock),
+                (lock[:2], unlock), (lock, unlock[::-1]), (lock + stuck, unlock), (lock, [unlock[-1]]), ([], lock),
+                ([], lock[:2] + [("BB", 1, 3)]), (lock[:2], [("BB", 1, 3), unlock[1], unlock[0]]),      # with a word 3
+                (lock[:2] + [("BB", 1, 3)], [("BB", 1, 0), unlock[0]]),                    # with a breaker's return
+                (lock + off, unlock + fit), ([], in_turn), (lock, in_turn), (stuck, in_turn)):
+            yield from with_rooms(told(n, before), [report_on(*report) for report in reports])
+        for bad, word in itertools.product((("GB", 1), ("BB", n)), (4, 5)):
+            reports = [report_on(*report) for report in (lock[0], (*bad, word), unlock[0])]
+            yield from ((told(n, lock[:1]), reports, count, 122) for count in (1, 2, 3))
+
+
 def outward_scans():
     """Scans whose second wave goes outward from a source to every bus, from a source over breakers some of which are in use, and from two
     sources, one of which has buses on both sides of the other's; each with a buffer as long as the sheet, and now and then a byte shorter."""
@@ -733,7 +928,7 @@ def own_sheet_scans(rng):
     shorter, longer = [], []
     while min(len(shorter), len(longer)) < 24:
         n = rng.choice(RINGS)
-        record, reports = loaded(n, worn_health(rng, n), rng), good_reports(rng, n, rng.randint(2, 12))
+        record, reports = worn_record(rng, n), good_reports(rng, n, rng.randint(2, 12))
         own, step = scan_length(record, reports), longest_step(record, reports)
         if own < step:
             shorter.append((record, reports, len(reports), rng.randrange(own, step)))
@@ -772,7 +967,7 @@ def listed_scans(rng):
 
 def scans(rng):
     calls = itertools.chain(counted_scans(rng), bad_scans(rng), twice_bad_scans(rng), settled_scans(), returning_scans(),
-                            outward_scans(), own_sheet_scans(rng), refused_scans(rng), listed_scans(rng))
+                            locking_scans(), outward_scans(), own_sheet_scans(rng), refused_scans(rng), listed_scans(rng))
     return (scan_case(rng, *call) for call in calls)
 
 
@@ -869,15 +1064,16 @@ def behind_the_live_places(rng):
 def bookings_on_dark_buses():
     """Bookings and cancellations on a bus that is dark, and in a ring that is."""
     for n in (3, 5, 20):
-        for faults in (cut_off(n, n), all_off_but(n)):
-            desk = Desk(loaded(n, health_with(faults)))
+        locked = [("G", k, 4) for k in range(1, n + 1)]
+        for reports in (cut_off(n, n), all_off_but(n), cut_off(n, n)[1:] + locked[-1:], locked):
+            desk = Desk(told(n, reports))
             yield from (desk.book(1, n, 100000), desk.book(2, 1, 1), desk.cancel(1000 * n), desk.cancel(1000), desk.book(1000, n, 3))
 
 
 def listed_bookings(rng):
     """Lists of bookings and cancellations in rings of every size, with steps between them that move what is booked, and lay it dark."""
     for n in range(3, 21):
-        record = booked(sim.record_for(n, worn_health(rng, n)), any_bookings(rng, n, rng.choice([0, 3, 8])))
+        record = booked(sim.record_for(n, worn_health(rng, n), worn_locks(rng, n)), any_bookings(rng, n, rng.choice([0, 3, 8])))
         desk = Desk(record, any_behind(rng) if n % 4 == 0 else BLANKS)
         for k in range(9):
             live, books = [booking.number for booking in desk.record.bookings], k % 3 < 2
@@ -890,9 +1086,20 @@ def listed_bookings(rng):
             desk.step(good_report(rng, n))
 
 
+def bookings_beside_locks():
+    """Bookings and cancellations where generators are locked: the figures follow the buses that the others feed."""
+    for n in (3, 4, 5, 8, 20):
+        for reports in ([("G", 1, 4)], [("G", 2, 4)], [("G", 1, 4), ("G", 2, 4)], [("G", 2, 4), ("BB", 2, 2)],
+                        [("G", 2, 1), ("G", 2, 4), ("G", 2, 0)], [("G", 2, 1), ("G", 2, 4), ("G", 2, 5)]):
+            desk = Desk(told(n, reports))
+            yield from (desk.book(7, 1, 100), desk.book(8, 2, 200), desk.book(9, n, 300), desk.cancel(2000), desk.cancel(7))
+            desk.step(report_on("G", 2, 5))
+            yield from (desk.book(7, 2, 50), desk.cancel(1000))
+
+
 def bookings(rng):
     return itertools.chain(full_places(rng), edges(), refusals_in_turn(), bookings_of_damaged_records(), behind_the_live_places(rng),
-                           bookings_on_dark_buses(), listed_bookings(rng))
+                           bookings_on_dark_buses(), bookings_beside_locks(), listed_bookings(rng))
 
 
 def feed_words(answer):
@@ -901,29 +1108,29 @@ def feed_words(answer):
     return words[answer[0]] % tuple(answer[1:])
 
 
-def plant_text(n, health, commands):
+def plant_text(n, health, locks, commands):
     """What ringplant prints."""
-    number, answers = sim.reckon(n, health, commands)
+    number, answers = sim.reckon(n, health, commands, locks)
     if number:
         return "refused %d\n" % number
     return "".join("B%d %s\n" % (bus, feed_words(answer)) for bus, answer in enumerate(answers[:n], start=1))
 
 
-def feeds_text(n, health, commands):
-    """What feeds each bus, as a line of ringtrace has it."""
+def feeds_text(record, commands):
+    """What feeds each bus of a ring by these commands, as a line of ringtrace has it."""
     marks = {"dark": "-", "fed": "G%d", "clash": "G%d!G%d"}
-    number, answers = sim.reckon(n, health, commands)
+    number, answers = sim.reckon(record.n, record.health, commands, record.locks)
     assert number == 0
-    return " ".join("B%d=%s" % (bus, marks[a[0]] % tuple(a[1:])) for bus, a in enumerate(answers[:n], start=1))
+    return " ".join("B%d=%s" % (bus, marks[a[0]] % tuple(a[1:])) for bus, a in enumerate(answers[:record.n], start=1))
 
 
 def call_text(number, commands, answer, sheet):
     """What ringtrace prints of a call: the ring after its word, and after each stroke. The orders are those before it."""
-    n, health, size = answer.record.n, answer.record.health, sheet[0] + sheet[1]
-    lines = ["%d %s\n" % (number, feeds_text(n, health, commands))]
+    size = sheet[0] + sheet[1]
+    lines = ["%d %s\n" % (number, feeds_text(answer.record, commands))]
     for code, order in zip(sheet[2:2 + size], sheet[2 + size:]):
         commands = {**commands, code: bool(order)}
-        lines.append("%s%s %s\n" % (rs.name_of(code), "+" if order else "-", feeds_text(n, health, commands)))
+        lines.append("%s%s %s\n" % (rs.name_of(code), "+" if order else "-", feeds_text(answer.record, commands)))
     return "".join(lines)
 
 
@@ -957,7 +1164,7 @@ def cuts_text(data):
     for code, word in zip(file.codes, file.words):
         sim.take_word(record, rs.report_of(code, word))
     for bus in range(1, file.n + 1):
-        sets = cut_sets(file.n, bus, record.health)
+        sets = cut_sets(record, bus)
         lines += ["B%d %d" % (bus, len(sets))] + [set_text(codes) for codes in sets]
     return "\n".join(lines) + "\n"
 
@@ -1026,27 +1233,29 @@ def loads_text(n, calls):
 
 
 def gate_plant():
-    """A ring of twelve with a clash, buses fed by one generator and dark ones, over stuck breakers of both kinds."""
+    """A ring of twelve with a clash, buses fed by one generator and dark ones, over stuck breakers of both kinds; of the locked generators
+    G10 and G12 are ordered on, G9 is stuck off too, and one is above n."""
     health = {code: 0 for code in rs.ALL_CODES}
     commands = {code: False for code in rs.ALL_CODES}
     for kind, number, word in (("BB", 1, 3), ("BB", 3, 2), ("GB", 6, 3), ("GB", 8, 2), ("G", 9, 1)):
         health[rs.code_of(kind, number)] = word
     for kind, number in (("G", 1), ("GB", 1), ("G", 2), ("GB", 2), ("BB", 2), ("BB", 3), ("G", 6), ("BB", 6), ("G", 8), ("GB", 8),
-                         ("G", 9), ("GB", 9), ("G", 11), ("GB", 11), ("G", 12), ("GB", 12), ("BB", 11)):
+                         ("G", 9), ("GB", 9), ("G", 10), ("GB", 10), ("G", 11), ("GB", 11), ("G", 12), ("GB", 12), ("BB", 11)):
         commands[rs.code_of(kind, number)] = True
-    return 12, health, commands
+    return 12, health, locks_on([4, 9, 10, 12, 13]), commands
 
 
 # Document 01's printed run.
 GATE_RUN = fault_file(3, [(65, 2)])
 
 # In a ring of five BB1 sticks closed between two running generators; BB3 sticks open; all generators fail; G3 comes back, and its current
-# goes round past B1 to B4; BB3 and G1 come back.
-GATE_TRACE = fault_file(5, [(64, 3), (66, 2), (0, 1), (1, 1), (3, 1), (4, 1), (2, 1), (2, 0), (66, 0), (0, 0)])
+# goes round past B1 to B4; BB3 and G1 come back; G3 is locked; G1 is locked, fails, is replaced and stays out, and is unlocked; G3 is unlocked.
+GATE_TRACE = fault_file(5, [(64, 3), (66, 2), (0, 1), (1, 1), (3, 1), (4, 1), (2, 1), (2, 0), (66, 0), (0, 0), (2, 4), (0, 4), (0, 1), (0, 0),
+                            (0, 5), (2, 5)])
 
 # In a ring of six BB2 sticks closed, BB4 and BB5 stick open and G5 fails, so that B5 is dark; GB1 sticks open and G3 fails, and both come
-# back; G6 fails.
-GATE_CUTS = fault_file(6, [(65, 3), (67, 2), (32, 2), (68, 2), (4, 1), (2, 1), (32, 0), (2, 0), (5, 1)])
+# back; G6 fails; G1 and G4 are locked, and G4 is unlocked.
+GATE_CUTS = fault_file(6, [(65, 3), (67, 2), (32, 2), (68, 2), (4, 1), (2, 1), (32, 0), (2, 0), (5, 1), (0, 4), (3, 4), (3, 5)])
 
 
 def gate_scans():
@@ -1065,6 +1274,11 @@ def gate_scans():
         [("BB", k, 0) for k in range(1, 6)] + [("GB", 2, 0)],   # all breakers come back
         [("G", k, 1) for k in range(1, 6)],                     # every bus dark
         [("BB", 3, 2), ("G", 3, 0)],                            # G3's current goes round past B1 to B4
+        [("G", 1, 4), ("G", 1, 0), ("G", 5, 0)],                # G1 is replaced while locked, and does not start; nor does G5, behind G3
+        [("G", 3, 4)],                                          # a single report: G5 takes over
+        [("G", 5, 4), ("G", 5, 5), ("G", 3, 1), ("G", 3, 5)],   # locked and unlocked in the cycle; failed while locked, and unlocked
+        [("G", 1, 5), ("BB", 2, 4)],                            # refused by 6, a lock for a breaker; nothing changes
+        [("G", 1, 5), ("G", 3, 0)],                             # G1 is unlocked, and takes every bus
     ]
     return 5, [[report_on(*report) for report in reports] for reports in calls]
 
@@ -1079,6 +1293,8 @@ def gate_loads():
               ("scan",), ("scan", report_on("G", 1, 1), report_on("G", 6, 1)), ("scan", *[report_on("BB", 5, 0)] * 65),
               ("report", report_on("BB", 5, 3)), ("scan", *[report_on("G", k, 1) for k in range(1, 6)]),    # every bus dark
               ("report", report_on("G", 3, 0))]
+    calls += [("report", report_on("G", 3, 4)), ("report", report_on("G", 3, 0)),       # locked: dark again, also when it is replaced
+              ("report", report_on("GB", 3, 5)), ("scan", report_on("G", 4, 0), report_on("G", 4, 4), report_on("G", 3, 5))]
     calls += [("book", 1000 + k, k % 5 + 1, 100 * k + 1) for k in range(60)]            # 64 are live
     calls += [("book", 1, 1, 1), ("book", 0, 1, 1)]                                     # refused by 14 and 13
     calls += [("cancel", 1030), ("book", 1, 1, 1), ("book", 2, 1, 1)]                   # its place serves again; refused by 14
@@ -1096,7 +1312,7 @@ def all_cases(seeds, started):
     yield "vectors", list(runs(random.Random(seeds[0])))
     yield "vectors_plant", list(plant(random.Random(seeds[1])))
     rng = random.Random(seeds[2])
-    yield "vectors_step", list(itertools.chain(steps(rng), returning_steps(rng), outward_steps(), loaded_steps(rng)))
+    yield "vectors_step", list(itertools.chain(steps(rng), returning_steps(rng), locking_steps(rng), outward_steps(), loaded_steps(rng)))
     yield "vectors_cuts", list(itertools.chain(started, cuts(random.Random(seeds[3]))))
     yield "vectors_scan", list(scans(random.Random(seeds[4])))
     yield "vectors_book", list(bookings(random.Random(seeds[5])))
@@ -1109,9 +1325,8 @@ def stored_files():
         yield os.path.join(crate, "stdout"), b"%d cases, 0 differ\n" % len(cases)
     yield os.path.join("ringctl", "stdin"), GATE_RUN
     yield os.path.join("ringctl", "stdout"), sim.printed_run(GATE_RUN)
-    n, health, commands = gate_plant()
-    yield os.path.join("ringplant", "stdin"), bytes([n]) + places(health) + places(commands)
-    yield os.path.join("ringplant", "stdout"), plant_text(n, health, commands).encode()
+    yield os.path.join("ringplant", "stdin"), plant_bytes(*gate_plant())
+    yield os.path.join("ringplant", "stdout"), plant_text(*gate_plant()).encode()
     yield os.path.join("ringtrace", "stdin"), GATE_TRACE
     yield os.path.join("ringtrace", "stdout"), trace_text(GATE_TRACE).encode()
     yield os.path.join("ringcuts", "stdin"), GATE_CUTS

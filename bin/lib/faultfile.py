@@ -5,9 +5,9 @@
     bin/faultfile check lines.txt                   what the controller would refuse in either, and why
 
 The first line is `ring N`, each further one a part and a word: `BB2 stuck open`, `G1 stuck off`, `GB3 fit`, and `G1 fit`
-for a generator that was replaced. Parts are numbered from 1 to N. What follows a # is passed over; case, spaces and empty
-lines do not matter. A byte that has no name is a number, as `code 99 word 7`, and a file of another shape is
-`bytes 3 1 0 64`.
+for a generator that was replaced. `G1 locked` locks a generator out for service, and `G1 unlocked` ends that; neither alters
+whether it is fit or stuck off. Parts are numbered from 1 to N. What follows a # is passed over; case, spaces and empty lines
+do not matter. A byte that has no name is a number, as `code 99 word 7`, and a file of another shape is `bytes 3 1 0 64`.
 Status: 0 done, and served for check; 1 refused, by check alone; 2 nothing could be read or written.
 """
 import faultlines

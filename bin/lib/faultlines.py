@@ -15,7 +15,10 @@ MOST = 20
 MOST_REPORTS = 4096
 
 # The words of a report, by number.
-WORDS = ("fit", "stuck off", "stuck open", "stuck closed")
+WORDS = ("fit", "stuck off", "stuck open", "stuck closed", "locked", "unlocked")
+
+# The words that alter a generator's lock, and leave its health; the others alter a part's health, and leave the lock.
+LOCK_WORDS = ("locked", "unlocked")
 
 # The lines that a scan stands between.
 SCAN_WORDS = ("scan", "end")
@@ -24,7 +27,8 @@ SCAN_WORDS = ("scan", "end")
 LOAD_WORDS = ("book", "cancel")
 
 # The words that each kind of part takes.
-WORDS_OF_KIND = {"G": ("fit", "stuck off"), "GB": ("fit", "stuck open", "stuck closed"), "BB": ("fit", "stuck open", "stuck closed")}
+WORDS_OF_KIND = {"G": ("fit", "stuck off", *LOCK_WORDS), "GB": ("fit", "stuck open", "stuck closed"),
+                 "BB": ("fit", "stuck open", "stuck closed")}
 
 
 class Mistake(Exception):
@@ -212,7 +216,8 @@ def report_refusal(size, code, word):
     if WORDS[word] in WORDS_OF_KIND[kind]:
         return 0, ""
     *others, last = WORDS_OF_KIND[kind]
-    return 6, "a %s is reported as %s or %s" % ("generator" if kind == "G" else "breaker", ", ".join(others), last)
+    reason = "a %s is reported as %s or %s" % ("generator" if kind == "G" else "breaker", ", ".join(others), last)
+    return 6, reason + ("; locks are for generators" if WORDS[word] in LOCK_WORDS else "")
 
 
 def shaped(data):
@@ -275,14 +280,15 @@ def check(data):
     return [line for _, line in found], found[0][0] if found else 0
 
 
-# ---- the plant: health and orders
+# ---- the plant: health, locks and orders
 
 class Plant:
-    """A ring's health and last orders, part by part, from readable lines: at first all fit, off and open."""
+    """A ring's health, locks and last orders, part by part, from readable lines: at first all fit, unlocked, off and open."""
 
     def __init__(self, size):
         self.size = size
         self.health = {}
+        self.locks = {}
         self.orders = {}
 
     def order(self, text, on, kinds, advice):
@@ -291,8 +297,19 @@ class Plant:
             raise Mistake("%s: %s" % (text, advice))
         self.orders[code] = on
 
+    def tell(self, code, word):
+        """A word on a part: it alters the health, or a generator's lock."""
+        if name_of(code) is None:
+            raise Mistake("code %d names no part" % code)
+        if word >= len(WORDS) or WORDS[word] not in LOCK_WORDS:
+            self.health[code] = word
+        elif kind_of(name_of(code)) != "G":
+            raise Mistake("locks are for generators")
+        else:
+            self.locks[code] = WORDS[word] == "locked"
+
     def take(self, texts):
-        """A line: a report of health, or an order."""
+        """A line: a report of health or of a lock, or an order."""
         first, last = texts[0].lower(), texts[-1].lower()
         if first in ("close", "open"):
             if len(texts) == 1:
@@ -302,19 +319,18 @@ class Plant:
         elif len(texts) == 2 and last in ("on", "off"):
             self.order(texts[0], last == "on", ("G",), "a breaker is ordered by `close` or `open`, as `close BB2`")
         else:
-            code, word = report_in(texts, self.size)
-            if name_of(code) is None:
-                raise Mistake("code %d names no part" % code)
-            self.health[code] = word
+            self.tell(*report_in(texts, self.size))
 
     def case(self):
-        """The bytes that the program takes: the size, the health of sixty parts and their orders."""
+        """The bytes that the program takes: the size, the health of sixty parts, the locks of twenty generators, and the orders of sixty
+        parts."""
         codes = [FIRST_CODE[kind] + i for kind in KINDS for i in range(MOST)]
-        return bytes([self.size] + [self.health.get(code, 0) for code in codes] + [int(self.orders.get(code, False)) for code in codes])
+        health, locks = [self.health.get(code, 0) for code in codes], [int(self.locks.get(code, False)) for code in codes[:MOST]]
+        return bytes([self.size] + health + locks + [int(self.orders.get(code, False)) for code in codes])
 
 
 def plant_case(data):
-    """The case of readable lines of ring, health and orders."""
+    """The case of readable lines of ring, health, locks and orders."""
     lines = lines_in(data)
     plant = Plant(size_of(lines))
     read_all(lines[1:], plant.take)

@@ -7,6 +7,7 @@
     G1 stuck off
     BB2 fit
     end
+    G2 locked               a generator is locked out for service, until `G2 unlocked`
     cancel 7                booking 7 is cancelled
 
     bin/ringload examples/bookings.txt              a line for the start, then one for each call

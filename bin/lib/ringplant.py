@@ -2,11 +2,13 @@
 
     ring 3                  the size, first
     BB2 stuck open          the health of a part: fit, stuck off, stuck open, stuck closed
+    G2 locked               a generator that is locked out for service, or no more: locked, unlocked
     G1 on                   an order to a generator: on, off
     close GB1 BB3           orders to breakers: close, open
 
-At first every part is fit, off and open; the last line on a part decides. The answer has a line a bus: `B1 G1`, fed by one
-generator, `B2 dark`, or `B3 clash G1 G2`, fed by both.
+At first every part is fit, unlocked, off and open; the last line on a part's health, lock or order decides. A generator that
+is stuck off or locked does not run, whatever it is ordered. The answer has a line a bus: `B1 G1`, fed by one generator,
+`B2 dark`, or `B3 clash G1 G2`, fed by both.
 Status: 0 answered, 1 refused, 2 nothing could be read or written.
 """
 import faultlines

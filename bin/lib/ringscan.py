@@ -8,6 +8,7 @@
     G1 stuck off
     end
     G1 fit                  the generator was replaced
+    G2 locked               it is locked out for service, until `G2 unlocked`
 
     bin/ringscan examples/one-cycle.txt             the run: a line for the start, then one for each report and each scan
     bin/ringscan --together FILE                    all reports of the file in one scan

@@ -19,12 +19,15 @@ import make_vectors  # noqa: E402
 
 BROWSER = next(filter(None, map(shutil.which, ("chromium", "chromium-browser", "google-chrome", "chrome"))), None)
 
-# Files of each size, with every kind of stuck part, two parts stuck beside each other, a clash, and generators that return.
+# Files of each size, with every kind of stuck part, two parts stuck beside each other, a clash, generators that return, and generators that
+# are locked, also where they are stuck off.
 FILES = {
-    3: "ring 3\nBB1 stuck closed\nBB2 stuck open\nG1 stuck off\nG2 stuck off\nG3 stuck off\nG2 fit\nG1 fit\n",
-    5: "ring 5\nBB2 stuck open\nBB4 stuck open\nG1 stuck off\nGB2 stuck closed\nBB1 stuck closed\n",
+    3: "ring 3\nBB1 stuck closed\nBB2 stuck open\nG1 stuck off\nG2 stuck off\nG3 stuck off\nG2 fit\nG1 fit\nG1 locked\nG2 locked\n"
+       "G2 stuck off\nG2 unlocked\nG2 fit\nG1 unlocked\n",
+    5: "ring 5\nBB2 stuck open\nBB4 stuck open\nG1 stuck off\nGB2 stuck closed\nBB1 stuck closed\nG1 locked\nG2 locked\nG1 fit\nG1 unlocked\n",
     20: "ring 20\nBB1 stuck closed\nGB11 stuck closed\nGB12 stuck closed\nBB10 stuck closed\nBB12 stuck closed\nBB20 stuck open\n"
-        "G2 stuck off\nBB5 stuck open\nGB1 stuck open\nG11 stuck off\nG12 stuck off\n",
+        "G2 stuck off\nBB5 stuck open\nGB1 stuck open\nG11 stuck off\nG12 stuck off\nG11 locked\nG12 locked\nG13 locked\nG3 locked\n"
+        "G10 locked\nG11 fit\n",
 }
 
 # Runs in the page: goes through all moments by a key, notes what stands on the screen, and whether texts overlap or are small.
@@ -47,9 +50,17 @@ function overlaps() {
     if (x > 1.5 && y > 3.5) faults.push(location.hash + ": " + t.textContent + " on " + u.textContent);
   }));
 }
+// What stands at a generator: how it is stuck, whether it is locked, the cross, the padlock, and whether it is drawn running.
+function machine(g) {
+  const part = byId("G" + g), words = [...part.querySelectorAll(".tag")].map(t => t.textContent).filter(word => word).join(" ");
+  const crossed = part.querySelector(".cross").getAttribute("visibility") == "visible";
+  const padlocked = getComputedStyle(part.querySelector(".padlock")).display != "none";
+  return [words, crossed ? "cross" : "", padlocked ? "padlock" : "", part.querySelector(".core").getAttribute("fill") == "none" ? "" : "runs"].join("/");
+}
 function look() {
-  const buses = Array.from({length: n}, (_, i) => document.querySelector("#B" + (i + 1) + " .source").textContent);
-  seen.push({at: location.hash.slice(1), buses});
+  const numbers = Array.from({length: n}, (_, i) => i + 1);
+  const buses = numbers.map(k => document.querySelector("#B" + k + " .source").textContent);
+  seen.push({at: location.hash.slice(1), buses, machines: numbers.map(machine)});
   overlaps();
 }
 function press(key) { document.dispatchEvent(new KeyboardEvent("keydown", {key, cancelable: true})); }
@@ -77,12 +88,28 @@ document.body.appendChild(told);
 def expected_moments(data):
     """What the page must show at each moment, by the simulation."""
     moments, call, stroke = [], -1, 0
+    n, off, locked, on = data[0], set(), set(), set()
     for line in make_vectors.trace_text(data).splitlines()[1:]:
         first, *buses = line.split(" ")
         call, stroke = (int(first), 0) if first.isdigit() else (call, stroke + 1)
+        if stroke:
+            (on.add if first[-1] == "+" else on.discard)(first[:-1])
+        elif call:
+            code, word = data[2 + call], data[2 + (len(data) - 3) // 2 + call]
+            if code < 20:
+                told = locked if word in (4, 5) else off
+                (told.add if word in (1, 4) else told.discard)("G%d" % (code + 1))
         words = [bus.split("=")[1] for bus in buses]
-        moments.append({"at": "%d.%d" % (call, stroke), "buses": ["dark" if w == "-" else w.replace("!", " ") for w in words]})
+        moments.append({"at": "%d.%d" % (call, stroke), "buses": ["dark" if w == "-" else w.replace("!", " ") for w in words],
+                        "machines": [machine_words("G%d" % k, off, locked, on) for k in range(1, n + 1)]})
     return moments
+
+
+def machine_words(name, off, locked, on):
+    """What must stand at a generator: how it is stuck, whether it is locked, the cross, the padlock, and whether it is drawn running."""
+    words = " ".join((["stuck", "off"] if name in off else []) + (["locked"] if name in locked else []))
+    running = name in on and name not in off and name not in locked
+    return "/".join([words, "cross" if name in off else "", "padlock" if name in locked else "", "runs" if running else ""])
 
 
 @unittest.skipUnless(BROWSER, "no browser is installed")

@@ -66,15 +66,23 @@ def number_of(data):
     return int.from_bytes(data, "little")
 
 
+def words_for(record):
+    """Words that make the health and the locks of a record: one for each part that is not fit, and one for each that is locked."""
+    return [(code, word) for code, word in record.health.items() if word] + [(code, 4) for code, locked in record.locks.items() if locked]
+
+
+RECORD = 674    # the bytes of a stored record
+
+
 class CutCase:
     """A stored case of the minimal cut sets."""
 
     def __init__(self, data, at):
-        self.n, self.health, self.bus = data[at], data[at + 1:at + 61], data[at + 654]
-        self.room = number_of(data[at + 655:at + 657])
-        self.number, self.count = data[at + 657], number_of(data[at + 658:at + 660])
-        self.end = at + 660 + self.room
-        self.buffer = data[at + 660:self.end]
+        self.record, self.bus = record_of(data[at:at + RECORD]), data[at + 674]
+        self.n, self.room = self.record.n, number_of(data[at + 675:at + 677])
+        self.number, self.count = data[at + 677], number_of(data[at + 678:at + 680])
+        self.end = at + 680 + self.room
+        self.buffer = data[at + 680:self.end]
 
     def sets(self):
         """The sets in the sheet of a served case, as tuples of codes."""
@@ -82,8 +90,8 @@ class CutCase:
         return [tuple(code for code in triple if code != 255) for triple in triples]
 
     def file(self):
-        """A fault file that makes the health of the record: a report for each part that is not fit."""
-        return make_vectors.fault_file(self.n, [(code, word) for code, word in zip(ringsim.ALL_CODES, self.health) if word])
+        """A fault file that makes the health and the locks of the record."""
+        return make_vectors.fault_file(self.n, words_for(self.record))
 
 
 def stored_cuts():
@@ -102,15 +110,16 @@ def booking_of(data):
 
 def places_of(data):
     """The 64 places of the bookings of a stored case's record, also those behind the live ones."""
-    return [booking_of(data[at:at + 7]) for at in range(122, 570, 7)]
+    return [booking_of(data[at:at + 7]) for at in range(142, 590, 7)]
 
 
 def record_of(data):
-    """A record of a stored case, of 654 bytes. Where more than 64 are live, the first booking stands for those that have no place."""
-    health, orders = dict(zip(ringsim.ALL_CODES, data[1:61])), dict(zip(ringsim.ALL_CODES, map(bool, data[61:121])))
-    stand, live = places_of(data), data[121]
-    watts = [number_of(data[at:at + 4]) for at in range(570, 654, 4)]
-    return ringsim.Record(data[0], health, orders, bookings=(stand + stand[:1] * live)[:live], watts=watts[:20], dark_watts=watts[20])
+    """A record of a stored case. Where more than 64 are live, the first booking stands for those that have no place."""
+    health, orders = dict(zip(ringsim.ALL_CODES, data[1:61])), dict(zip(ringsim.ALL_CODES, map(bool, data[81:141])))
+    locks = dict(zip(ringsim.GENERATOR_CODES, map(bool, data[61:81])))
+    stand, live = places_of(data), data[141]
+    watts = [number_of(data[at:at + 4]) for at in range(590, 674, 4)]
+    return ringsim.Record(data[0], health, orders, locks, bookings=(stand + stand[:1] * live)[:live], watts=watts[:20], dark_watts=watts[20])
 
 
 def report_of(data):
@@ -122,22 +131,22 @@ class StepCase:
     """A stored case of a start or a step."""
 
     def __init__(self, data):
-        self.is_start, self.before, self.expected = data[1] == 255, data[:1] + data[2:655], data[660:1314]
-        self.call, self.record, self.report = data[:658], record_of(self.before), report_of(data[655:658])
-        self.room, self.number, self.after = data[658], data[659], record_of(self.expected)
-        self.choices, self.buffer = data[1314:1354], data[1354:]
+        self.is_start, self.before, self.expected = data[1] == 255, data[:1] + data[2:675], data[680:1354]
+        self.call, self.record, self.report = data[:678], record_of(self.before), report_of(data[675:678])
+        self.room, self.number, self.after = data[678], data[679], record_of(self.expected)
+        self.choices, self.buffer = data[1354:1394], data[1394:]
 
 
 class ScanCase:
     """A stored case of a scan."""
 
     def __init__(self, data):
-        self.before, self.expected = data[:654], data[849:1503]
-        self.record, self.count = record_of(self.before), data[654]
-        self.places = [report_of(data[at:at + 3]) for at in range(655, 847, 3)]
+        self.before, self.expected = data[:RECORD], data[869:1543]
+        self.record, self.count = record_of(self.before), data[674]
+        self.places = [report_of(data[at:at + 3]) for at in range(675, 867, 3)]
         self.reports = self.places[:self.count]
-        self.room, self.number, self.after = data[847], data[848], record_of(self.expected)
-        self.choices, self.buffer = data[1503:1543], data[1543:]
+        self.room, self.number, self.after = data[867], data[868], record_of(self.expected)
+        self.choices, self.buffer = data[1543:1583], data[1583:]
 
     def flaws(self):
         """The refusal of each place's report by itself, 0 where it is good."""
@@ -153,9 +162,9 @@ class BookCase:
     """A stored case of a booking or a cancellation."""
 
     def __init__(self, data):
-        self.before, self.expected = data[:654], data[663:1317]
-        self.record, self.is_booking, self.booking = record_of(self.before), data[654] == 0, booking_of(data[655:662])
-        self.number, self.after = data[662], record_of(self.expected)
+        self.before, self.expected = data[:RECORD], data[683:1357]
+        self.record, self.is_booking, self.booking = record_of(self.before), data[674] == 0, booking_of(data[675:682])
+        self.number, self.after = data[682], record_of(self.expected)
 
 
 def way_of(n, bus, source, letter):
@@ -214,10 +223,10 @@ def simulated_loads(data, with_run=False):
 # Of the programs whose cases hold a record: the bytes of a case before those of its buffer, the first that is expected, and the room of the
 # buffer; a booking has none.
 LAYOUTS = {
-    "vectors_step": (1354, 659, lambda case: case[658]),
-    "vectors_scan": (1543, 848, lambda case: case[847]),
-    "vectors_cuts": (660, 657, lambda case: number_of(case[655:657])),
-    "vectors_book": (1317, 662, lambda case: 0),
+    "vectors_step": (1394, 679, lambda case: case[678]),
+    "vectors_scan": (1583, 868, lambda case: case[867]),
+    "vectors_cuts": (680, 677, lambda case: number_of(case[675:677])),
+    "vectors_book": (1357, 682, lambda case: 0),
 }
 
 

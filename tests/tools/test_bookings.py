@@ -36,7 +36,7 @@ def figures(record, sources):
 
 
 def sources_of(record):
-    return [0 if way is None else way.generator for way in sim.choose(record.n, record.health, ringsim.no_locks())]
+    return [0 if way is None else way.generator for way in sim.choose(record.n, record.health, record.locks)]
 
 
 def figures_of(record):
@@ -95,7 +95,7 @@ class Damaged(unittest.TestCase):
         found = set()
         for case in cases:
             record = case.record
-            if case.number != 9 or sim.record_is_bad(ringsim.Record(record.n, record.health, record.orders)):
+            if case.number != 9 or sim.record_is_bad(ringsim.Record(record.n, record.health, record.orders, record.locks)):
                 continue
             numbers, n = live(record), record.n
             found.add("live %d" % len(numbers) if len(numbers) > 64 else "")
@@ -125,8 +125,8 @@ class Damaged(unittest.TestCase):
         """The records of refused lists, whose switching is good."""
         bad = collections.Counter()
         for data in stored_cases("vectors_cuts"):
-            if data[657] == 9:
-                bad[data[:121] == make_vectors.record_bytes(make_vectors.with_a_dark_bus(6))[:121]] += 1
+            if data[677] == 9:
+                bad[data[:141] == make_vectors.record_bytes(make_vectors.with_a_dark_bus(6))[:141]] += 1
         self.assertGreater(bad[True], 20)
 
     def test_records_are_bad_by_9_alone(self):
@@ -152,7 +152,7 @@ class Places(unittest.TestCase):
         moved = 0
         for case in SWITCHED:
             if not getattr(case, "is_start", False):
-                self.assertEqual(case.expected[121:570], case.before[121:570])
+                self.assertEqual(case.expected[141:590], case.before[141:590])
                 moved += case.number == 0 and any(place != BLANK for place in places_of(case.before)[len(case.record.bookings):])
         self.assertGreater(moved, 50)
 
@@ -189,7 +189,7 @@ class Figures(unittest.TestCase):
     def test_choices_stay(self):
         """A booking and a cancellation leave the switching as it was."""
         for case in BOOKED + CANCELLED:
-            self.assertEqual(case.expected[:121], case.before[:121])
+            self.assertEqual(case.expected[:141], case.before[:141])
 
     def test_what_reports_and_scans_move(self):
         """Watts that go from one generator to another, go dark, and are lit again, by steps and by scans."""

@@ -269,7 +269,7 @@ class Others(unittest.TestCase):
             self.assertGreaterEqual(sum(order(wave) != wave.second for wave in WAVES), least, name)
 
 
-def advances(n, health, orders, strokes):
+def advances(record, orders, strokes):
     """Whether current advances from stroke to stroke, by the plant reckoning: a generator breaker closes where its generator is ordered on, a
     bus breaker where one of its buses is fed."""
     orders = dict(orders)
@@ -278,8 +278,8 @@ def advances(n, health, orders, strokes):
         if kind == 1 and not orders[number]:
             return False
         if kind == 2:
-            feeds = sim.reckon(n, health, orders)[1]
-            if feeds[number] == feeds[(number + 1) % n] == ringsim.DARK:
+            feeds = sim.reckon(record.n, record.health, orders, record.locks)[1]
+            if feeds[number] == feeds[(number + 1) % record.n] == ringsim.DARK:
                 return False
         orders[code] = True
     return True
@@ -293,8 +293,8 @@ class Lamps(unittest.TestCase):
         for _, record, after, choices, sheet in CALLS:
             wave = sheet_wave(record, choices, sheet)
             orders = {code: order and code not in wave.first for code, order in record.orders.items()}
-            self.assertTrue(advances(record.n, after.health, orders, wave.second))
-            stopped += not advances(record.n, after.health, orders, sorted(wave.second))
+            self.assertTrue(advances(after, orders, wave.second))
+            stopped += not advances(after, orders, sorted(wave.second))
         self.assertGreater(stopped, 100)
 
 

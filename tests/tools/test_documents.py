@@ -5,7 +5,7 @@ import subprocess
 import tempfile
 import unittest
 
-from support import path, read, run, tool
+from support import faultlines, path, read, run, tool
 
 KIT = {"io", "libc", "os", "check", "bytes"}
 
@@ -68,15 +68,33 @@ class Commands(unittest.TestCase):
         last = [tool(*words, file).out.splitlines(True)[-1] for words in (["ringctl"], ["ringscan", "--together"])]
         self.assertEqual(re.sub("^    ", "", shown, flags=re.M).encode(), b"".join(last))
 
-    def test_the_returns_in_the_examples(self):
-        shown = re.search(r"((?:    .*\n)+)", text_of("examples", "README.md").split("The last four lines are\n")[1]).group(1)
-        lines = [line.split(" / ") for line in text_of("examples", "generator-returns.run").splitlines()]
+    def check_changes(self, said, example, count):
+        """The last lines of an example's run, with the buses that change."""
+        shown = re.search(r"((?:    .*\n)+)", text_of("examples", "README.md").split(said)[1]).group(1)
+        lines = [line.split(" / ") for line in text_of("examples", example + ".run").splitlines()]
         changes = []
-        for (before, *_), (after, *waves) in zip(lines[-5:], lines[-4:]):
+        for (before, *_), (after, *waves) in zip(lines[-count - 1:], lines[-count:]):
             number, *buses = after.split(" ")
             changed = [bus for bus in buses if bus not in before.split(" ")] or ["-"]
             changes.append("    " + " / ".join([" ".join([number] + changed)] + waves) + "\n")
         self.assertEqual(shown, "".join(changes))
+
+    def test_the_returns_in_the_examples(self):
+        self.check_changes("The last four lines are\n", "generator-returns", 4)
+
+    def test_the_service_visit_in_the_examples(self):
+        self.check_changes("After the start its lines are\n", "service-visit", 6)
+
+    def test_the_words_on_the_card(self):
+        """Each word has its number, and stands for the parts that take it; so has the row of refusal 6."""
+        card = text_of("docs", "CARD.md")
+        listed = re.search(r"\*\*Words\.\*\* (.*?)\.\n", card).group(1)
+        self.assertEqual(re.findall(r"(\d) ([a-z ]+[a-z])", listed), [(str(number), word) for number, word in enumerate(faultlines.WORDS)])
+        taken = {kind: {faultlines.WORDS.index(word) for word in words} for kind, words in faultlines.WORDS_OF_KIND.items()}
+        wrong = re.search(r"\(above (\d)\), .*: (\d) or (\d) for a generator, (\d), (\d) or (\d) for a breaker \|", card).groups()
+        every = set(range(int(wrong[0]) + 1))
+        self.assertEqual(len(every), len(faultlines.WORDS))
+        self.assertEqual((every - set(map(int, wrong[1:3])), every - set(map(int, wrong[3:]))), (taken["G"], taken["GB"]))
 
     def test_the_lamps_in_the_examples_and_on_the_card(self):
         text, run = text_of("examples", "README.md"), text_of("examples", "current-advances.run")

@@ -19,10 +19,10 @@ ERRORS = named("errors", "*.txt")
 
 
 def simulated_plant(lines):
-    """The simulation's answer to readable lines of ring, health and orders."""
+    """The simulation's answer to readable lines of ring, health, locks and orders."""
     case = faultlines.plant_case(lines)
-    health, orders = dict(zip(ringsim.ALL_CODES, case[1:61])), dict(zip(ringsim.ALL_CODES, map(bool, case[61:])))
-    return make_vectors.plant_text(case[0], health, orders).encode()
+    health, orders = dict(zip(ringsim.ALL_CODES, case[1:61])), dict(zip(ringsim.ALL_CODES, map(bool, case[81:])))
+    return make_vectors.plant_text(case[0], health, dict(zip(ringsim.GENERATOR_CODES, map(bool, case[61:81]))), orders).encode()
 
 
 def simulated_run(lines):
@@ -129,6 +129,13 @@ class Examples(ToolCase):
         self.assertIn(b" B1=G1o ", back)
         self.assertTrue(last.endswith(b" / - / -"))
         self.assertEqual(faultlines.reports_of(read("examples", "generator-returns.faults"))[-4:], [(1, 0), (4, 0), (0, 0), (3, 0)])
+        visit = [line.split(b" ", 1)[1] for line in runs["service-visit"].splitlines()[1:]]
+        self.assertEqual(faultlines.reports_of(read("examples", "service-visit.faults")), [(1, 4), (0, 1), (1, 1), (1, 0), (1, 5), (0, 0)])
+        self.assertNotIn(b"=G2", b"".join(visit[1:5]))                  # locked, and replaced while locked
+        self.assertTrue(visit[2].startswith(b"B1=G3h B2=G3h B3=G3o "))
+        self.assertTrue(visit[3].endswith(b" / - / -") and visit[4] == visit[3])
+        self.assertIn(b" B2=G2o B3=G2h ", visit[5])
+        self.assertEqual(visit[6].split(b" / ")[0], visit[0].split(b" / ")[0])
         seconds = [line.split(b" / ")[2] for line in runs["current-advances"].splitlines()[1:]]
         self.assertEqual((seconds[7], seconds[10]), (b"G3+ GB3+ BB2+ BB1+ BB5+ BB4+", b"G4+ GB4+ BB5+"))
         self.assertIn(b"\n6 B1=- B2=- B3=- B4=- B5=- / ", runs["current-advances"])

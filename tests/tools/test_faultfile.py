@@ -20,6 +20,11 @@ class Encode(ToolCase):
         self.encodes("ring 3\nBB2 stuck open\n", [3, 1, 0, 65, 2])
         self.encodes("ring 20\nG20 stuck off\nGB1 stuck closed\nBB20 fit", [20, 3, 0, 19, 32, 83, 1, 3, 0])
         self.encodes("ring 3\nG1 fit\nG3 stuck off\ng3 FIT\n", [3, 3, 0, 0, 2, 2, 0, 1, 0])
+        self.encodes("ring 3\nG1 locked\nG3 unlocked\ng3 Locked\nG1 word 5\n", [3, 4, 0, 0, 2, 2, 0, 4, 5, 4, 5])
+
+    def test_words_of_the_other_kind(self):
+        """The controller refuses them; bin/faultfile check says why."""
+        self.encodes("ring 3\nGB1 stuck off\nGB1 locked\nBB3 unlocked\nG2 stuck open\n", [3, 4, 0, 32, 32, 66, 1, 1, 4, 5, 2])
 
     def test_what_is_forgiven(self):
         self.encodes("# first\r\n\r\n  RING\t3 # three\r\nbb2   Stuck\tOPEN\r\n", [3, 1, 0, 65, 2])
@@ -38,7 +43,12 @@ class Encode(ToolCase):
         self.mistake("ring 3\nBB0 fit\n", "line 2: BB0 fit: BB are numbered from 1 to 20")
         self.mistake("ring 3\nB2 stuck open\n", "line 2: B2 stuck open: this names no part")
         self.mistake("ring 3\nBB2\n", "line 2: BB2: the word is missing")
-        self.mistake("ring 3\nBB2 broken\n", "line 2: BB2 broken: the word is none of: fit, stuck off")
+        self.mistake("ring 3\nBB2 broken\n",
+                     "line 2: BB2 broken: the word is none of: fit, stuck off, stuck open, stuck closed, locked, unlocked\n$")
+        for word in ("lock", "unlock", "locked out", "un locked", "stuck locked", "lockedd"):
+            self.mistake("ring 3\nG1 locked\nG2 %s\n" % word, "^faultfile: line 3: G2 %s: the word is none of: fit, stuck off" % word)
+        self.mistake("ring 3\nlocked\n", "line 2: locked: this names no part")
+        self.mistake("ring 3\nG4 locked\n", "line 2: G4 locked: a ring of 3 has G1 to G3")
         self.mistake("ring 3\nBB2 stuck open now\n", "line 2: BB2 stuck open now: the word is none of")
         self.mistake("ring 3\nBB2 word 256\n", "line 2: BB2 word 256: a word is at most 255")
         self.mistake("ring 3\ncode x word 1\n", "line 2: code x word 1: a code is a number from 0 to 255")
@@ -76,7 +86,7 @@ class Decode(ToolCase):
     def test_any_bytes_come_back(self):
         rng = random.Random(14)
         for size in [0, 1, 2, 3, 4, 5, 5, 7, 7, 9, 40, 300] * 40:
-            data = bytes(rng.randrange(256) if rng.random() < .5 else rng.randrange(4) for _ in range(size))
+            data = bytes(rng.randrange(256) if rng.random() < .5 else rng.randrange(7) for _ in range(size))
             self.assertEqual(faultlines.encode(faultlines.decode(data).encode()), data)
 
     def test_by_the_command(self):
@@ -87,6 +97,10 @@ class Decode(ToolCase):
     def test_what_it_shows(self):
         self.check(tool("faultfile", "decode", data=bytes([3, 2, 0, 65, 0, 2, 1])), 0, b"ring 3\nBB2 stuck open\nG1 stuck off\n")
         self.check(tool("faultfile", "decode", data=bytes([3, 2, 0, 0, 0, 1, 0])), 0, b"ring 3\nG1 stuck off\nG1 fit\n")
+        self.check(tool("faultfile", "decode", data=bytes([3, 3, 0, 0, 2, 0, 4, 5, 5])), 0, b"ring 3\nG1 locked\nG3 unlocked\nG1 unlocked\n")
+        self.check(tool("faultfile", "decode", data=bytes([3, 2, 0, 34, 0, 4, 6])), 0,
+                   b"ring 3\nGB3 locked    # refused 6: a breaker is reported as fit, stuck open or stuck closed; locks are for generators\n"
+                   b"G1 word 6    # refused 6: word 6 is none: words go from 0 to 5\n")
         self.check(tool("faultfile", "decode", data=bytes([3, 1, 0, 67, 2])), 0,
                    b"ring 3\ncode 67 word 2    # refused 5: a ring of 3 has BB1 to BB3\n")
         self.check(tool("faultfile", "decode", data=bytes([3, 1, 0, 64])), 0,
@@ -102,11 +116,23 @@ class Check(ToolCase):
     def test_words_for_each_line(self):
         lines = b"ring 3\nBB2 stuck open\n\nG2 fit\nG2 stuck closed\nBB4 fit\nG1 stuck open\nBB1 stuck off\nBB1 word 9\n"
         self.check(tool("faultfile", "check", data=lines), 1,
-                   b"line 5: G2 stuck closed: refused 6, a generator is reported as fit or stuck off\n"
+                   b"line 5: G2 stuck closed: refused 6, a generator is reported as fit, stuck off, locked or unlocked\n"
                    b"line 6: BB4 fit: refused 5, a ring of 3 has BB1 to BB3\n"
-                   b"line 7: G1 stuck open: refused 6, a generator is reported as fit or stuck off\n"
+                   b"line 7: G1 stuck open: refused 6, a generator is reported as fit, stuck off, locked or unlocked\n"
                    b"line 8: BB1 stuck off: refused 6, a breaker is reported as fit, stuck open or stuck closed\n"
-                   b"line 9: BB1 word 9: refused 6, word 9 is none: words go from 0 to 3\n"
+                   b"line 9: BB1 word 9: refused 6, word 9 is none: words go from 0 to 5\n"
+                   b"the controller's answer: refused 6\n")
+
+    def test_locks(self):
+        for served in (b"ring 3\nG1 locked\n", b"ring 3\nG1 unlocked\nG1 locked\nG1 locked\nG1 fit\n", b"\3\2\0\0\2\4\5"):
+            self.check(tool("faultfile", "check", data=served), 0, b"the controller's answer: served\n")
+        self.check(tool("faultfile", "check", data=b"ring 3\nG1 locked\nGB1 locked\nBB4 locked\nBB3 unlocked\n"), 1,
+                   b"line 3: GB1 locked: refused 6, a breaker is reported as fit, stuck open or stuck closed; locks are for generators\n"
+                   b"line 4: BB4 locked: refused 5, a ring of 3 has BB1 to BB3\n"
+                   b"line 5: BB3 unlocked: refused 6, a breaker is reported as fit, stuck open or stuck closed; locks are for generators\n"
+                   b"the controller's answer: refused 6\n")
+        self.check(tool("faultfile", "check", data=b"\3\2\0\0\x40\4\4"), 1,
+                   b"report 2: BB1 locked: refused 6, a breaker is reported as fit, stuck open or stuck closed; locks are for generators\n"
                    b"the controller's answer: refused 6\n")
 
     def test_whole_files(self):
@@ -114,7 +140,8 @@ class Check(ToolCase):
         self.check(tool("faultfile", "check", data=b"ring 2\n"), 1,
                    b"refused 2, a ring has from 3 to 20 buses, not 2\nthe controller's answer: refused 2\n")
         self.check(tool("faultfile", "check", data=b"\3\1\0\0\2"), 1,
-                   b"report 1: G1 stuck open: refused 6, a generator is reported as fit or stuck off\nthe controller's answer: refused 6\n")
+                   b"report 1: G1 stuck open: refused 6, a generator is reported as fit, stuck off, locked or unlocked\n"
+                   b"the controller's answer: refused 6\n")
         for served in (b"\3\1\0\0\0", b"ring 3\nG1 fit\n", b"ring 3\nG2 stuck off\nG2 fit\n"):
             self.check(tool("faultfile", "check", data=served), 0, b"the controller's answer: served\n")
         self.check(tool("faultfile", "check", data=b"ring 3\nGB33 fit\n"), 2, b"", "line 2: GB33 fit: GB are numbered")
@@ -122,7 +149,7 @@ class Check(ToolCase):
     def test_numbers_are_the_simulations(self):
         rng = random.Random(15)
         files = [data for data, _ in stored_runs()]
-        files += [bytes(rng.choice([0, 1, 2, 3, 4, 20, 32, 51, 64, 83, 84, 255]) for _ in range(rng.randrange(12))) for _ in range(3000)]
+        files += [bytes(rng.choice([0, 1, 2, 3, 4, 5, 6, 20, 32, 51, 64, 83, 84, 255]) for _ in range(rng.randrange(12))) for _ in range(3000)]
         for data in files:
             self.assertEqual(faultlines.check(data)[1], sim.parse_fault_file(data).refusal, data)
             lines = faultlines.decode(data).encode()

@@ -20,8 +20,8 @@ RINGS = (3, 4, 5, 20)
 class Rules(unittest.TestCase):
 
     def test_the_rules_that_are_built(self):
-        """Notes 3 to 6 and no later one; every question to the simulation is bound to them."""
-        self.assertEqual(RULES, ringsim.rules_named("notes=3,4,5,6"))
+        """Notes 3 to 7 and no later one; every question to the simulation is bound to them."""
+        self.assertEqual(RULES, ringsim.rules_named("notes=3,4,5,6,7"))
         self.assertEqual({part.keywords["rules"] for part in vars(sim).values()}, {RULES})
 
     def test_the_simulation_is_asked_under_the_rules_alone(self):
@@ -41,7 +41,7 @@ def answers_of(name):
     """The numbers of a program's stored answers, but for printed runs."""
     if name == "vectors_plant":
         data = read("crates", name, "data", "cases")
-        return {data[at] for at in range(121, len(data), 182)}
+        return {data[at] for at in range(141, len(data), 202)}
     return {case[LAYOUTS[name][1]] for case in stored_cases(name)}
 
 
@@ -65,7 +65,7 @@ class Seven(unittest.TestCase):
         """The programs on every code up to the last, and a word too many: the simulation's run, which has no 7."""
         seen = set()
         for code in [*range(22), *range(30, 54), *range(62, 86), 255]:
-            for word in range(5):
+            for word in range(7):
                 data = bytes([3, 1, 0, code, word])
                 run = program("ringctl", data).out
                 self.assertEqual(run, sim.printed_run(data), data)
@@ -78,7 +78,7 @@ class Seven(unittest.TestCase):
         numbers = set()
         for kind in make_vectors.KINDS:
             for number in (0, 1, 3, 4, 255):
-                calls = [[make_vectors.report_on(kind, number, word)] for word in range(4)]
+                calls = [[make_vectors.report_on(kind, number, word)] for word in range(6)]
                 text = program("ringscan", make_vectors.scans_file(3, calls)).out
                 self.assertEqual(text, make_vectors.scans_text(3, calls).encode())
                 numbers.update(re.findall(b"^refused ([0-9]+)$", text, re.M))
@@ -97,10 +97,11 @@ class Line:
 
 
 class Return:
-    """A word 0 for a generator in a served run: the words on all parts before it, the line of the run before it, and its own."""
+    """A word 0 for a generator in a served run: the words on the health of all parts before it, the locks, the line of the run before it, and
+    its own."""
 
-    def __init__(self, n, code, words, before, after):
-        self.n, self.code, self.words = n, code, words
+    def __init__(self, n, code, words, locks, before, after):
+        self.n, self.code, self.words, self.locks = n, code, words, locks
         self.before, self.after = Line(before), Line(after)
         self.was_off = words.get(code, 0) == 1
 
@@ -113,11 +114,14 @@ class Return:
 
 
 def returns_of(data, text):
-    lines, words = text.decode().splitlines()[1:], {}
+    lines, words, locks = text.decode().splitlines()[1:], {}, ringsim.no_locks()
     for (code, word), before, after in zip(faultlines.reports_of(data), lines, lines[1:]):
         if code < faultlines.MOST and word == 0:
-            yield Return(data[0], code, dict(words), before, after)
-        words[code] = word
+            yield Return(data[0], code, dict(words), dict(locks), before, after)
+        if word < 4:
+            words[code] = word
+        else:
+            locks[code] = word == 4
 
 
 class StoredRuns(unittest.TestCase):
@@ -152,11 +156,11 @@ class StoredRuns(unittest.TestCase):
             self.assertEqual((found.after.buses, found.after.waves), (found.before.buses, ["-", "-"]))
 
     def test_dark_buses_are_judged_by_the_latest_word(self):
-        """A bus that stays dark has no way from a generator that is fit after the word; one that is lit has."""
+        """A bus that stays dark has no way from a generator that is fit after the word, not stuck off and not locked; one that is lit has."""
         for found in self.returns:
             health = {**dict.fromkeys(ringsim.ALL_CODES, 0), **found.words, found.code: 0}
             for bus, choice in enumerate(found.after.buses, start=1):
-                fed = sim.could_be_fed(found.n, bus, health, ringsim.no_locks())
+                fed = sim.could_be_fed(found.n, bus, health, found.locks)
                 self.assertEqual(fed, not choice.endswith("=-"))
 
     def test_all_dark_and_lit_by_one(self):
@@ -263,7 +267,7 @@ class Tools(ToolCase):
     def test_ringscan_says_which_words_a_generator_takes(self):
         answer = tool("ringscan", data=b"ring 3\nscan\nG1 fit\nG2 stuck closed\nend\nG3 fit\n")
         self.check(answer, 1, START + b"refused 6\n" + NOTHING % 2,
-                   "^ringscan: line 4: G2 stuck closed: refused 6, a generator is reported as fit or stuck off\n$")
+                   "^ringscan: line 4: G2 stuck closed: refused 6, a generator is reported as fit, stuck off, locked or unlocked\n$")
 
     def test_ringplant(self):
         orders = b"G1 on\nclose GB1\n"

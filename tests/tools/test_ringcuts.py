@@ -69,11 +69,11 @@ class Stored(unittest.TestCase):
     def test_the_quick_judgement_is_the_simulations(self):
         rng = random.Random(19)
         for n in [3, 4, 5, 6] * 8 + [7, 8, 12]:
-            health, bus = make_vectors.worn_health(rng, n), rng.randint(1, n)
-            sets = make_vectors.cut_sets(n, bus, health)
-            self.assertEqual(sets, sim.darkening_sets(n, bus, health, ringsim.no_locks()))
+            record, bus = make_vectors.worn_record(rng, n), rng.randint(1, n)
+            sets = make_vectors.cut_sets(record, bus)
+            self.assertEqual(sets, sim.darkening_sets(n, bus, record.health, record.locks))
             if n < 6:
-                self.assertEqual(sets, sim.darkening_sets(n, bus, health, ringsim.no_locks(), is_dark=ringsim.dark_by_choosing))
+                self.assertEqual(sets, sim.darkening_sets(n, bus, record.health, record.locks, is_dark=ringsim.dark_by_choosing))
 
 
 class Program(ToolCase):
@@ -92,7 +92,7 @@ class Program(ToolCase):
         self.assertEqual({frozenset(parts) for parts in sets_of(answer.out)[2]}, {frozenset(parts) for parts in ten})
 
     def test_every_stored_sheet(self):
-        """Each served case, by a fault file that makes its health: all buses of all started rings, and rings with faults."""
+        """Each served case, by a fault file that makes its health and its locks: all buses of all started rings, and rings with faults."""
         printed = {}
         for case in stored_cuts():
             if case.number == 0:
@@ -120,13 +120,26 @@ class Program(ToolCase):
         rng = random.Random(21)
         for _ in range(150):
             data = bytearray(FILE)
-            data[rng.randrange(len(data))] = rng.choice([0, 1, 2, 3, 4, 5, 31, 32, 34, 35, 63, 64, 66, 67, 84, 255])
+            data[rng.randrange(len(data))] = rng.choice([0, 1, 2, 3, 4, 5, 6, 31, 32, 34, 35, 63, 64, 66, 67, 84, 255])
             self.holds(bytes(data[:rng.choice([len(data)] * 5 + [rng.randrange(8)])]))
 
     def test_the_last_word_decides(self):
         self.holds(make_vectors.fault_file(4, [(64, 2), (35, 2), (64, 3), (35, 0), (65, 2), (65, 2), (0, 1)]))
         self.holds(make_vectors.fault_file(5, [(66, k % 2 * 2) for k in range(4096)]))
         self.holds(make_vectors.fault_file(4, [(2, 1), (1, 1), (2, 0), (64, 2), (2, 1), (2, 0), (0, 0)]))
+        self.holds(make_vectors.fault_file(4, [(2, 4), (1, 4), (2, 5), (64, 2), (1, 1), (1, 0), (0, 5)]))
+
+    def test_locked_generators(self):
+        """They are in no set, and a ring with locks has the sets of one in which the same generators are stuck off."""
+        rng = random.Random(23)
+        for n in (3, 4, 5, 6, 7):
+            for numbers in ([1], [2], [n], [1, 2], rng.sample(range(1, n + 1), 2), range(1, n), range(1, n + 1)):
+                faults = [(rng.choice([32, 64]) + rng.randrange(n), rng.choice([2, 3])) for _ in range(rng.randrange(3))]
+                locked, off = (make_vectors.fault_file(n, faults + [(k - 1, word) for k in numbers]) for word in (4, 1))
+                self.holds(locked)
+                text = program("ringcuts", locked).out
+                self.assertEqual(text, program("ringcuts", off).out)
+                self.assertFalse({"G%d" % k for k in numbers} & {name for sets in sets_of(text) for parts in sets for name in parts})
 
     def test_input_in_portions(self):
         running = subprocess.Popen([path("target", "bin", "ringcuts")], stdin=subprocess.PIPE, stdout=subprocess.PIPE)
@@ -197,6 +210,18 @@ class Ringcuts(ToolCase):
         dark = b"ring 3\nG1 stuck off\nG2 stuck off\nGB3 stuck open\n"
         self.check(tool("ringcuts", data=dark), 0, b"B1 1\n-\nB2 1\n-\nB3 1\n-\n")
         self.check(tool("ringcuts", "--bus", "B2", data=dark), 0, b"B2 1\n-\n")
+
+    def test_locked_generators(self):
+        """B3 hangs on its own generator; while that is locked the bus is dark, and has the empty set alone."""
+        cut = b"ring 3\nBB2 stuck open\nBB3 stuck open\n"
+        self.check(tool("ringcuts", "--bus", "B3", data=cut), 0, b"B3 2\nG3\nGB3\n")
+        self.check(tool("ringcuts", "--bus", "B3", data=cut + b"G3 locked\n"), 0, b"B3 1\n-\n")
+        self.check(tool("ringcuts", "--bus", "B3", data=cut + b"G3 locked\nG3 stuck off\nG3 unlocked\n"), 0, b"B3 1\n-\n")
+        self.check(tool("ringcuts", "--bus", "B3", data=cut + b"G3 locked\nG3 unlocked\n"), 0, b"B3 2\nG3\nGB3\n")
+        lines = b"ring 3\nG1 locked\nG3 locked\n"
+        self.check(tool("ringcuts", data=lines), 0, make_vectors.cuts_text(faultlines.encode(lines)).encode())
+        self.assertEqual(tool("ringcuts", data=lines).out, tool("ringcuts", data=lines.replace(b"locked", b"stuck off")).out)
+        self.check(tool("ringcuts", data=b"ring 3\nGB1 locked\n"), 1, b"refused 6\n")
 
     def test_buses_of_a_ring_of_twenty(self):
         whole = tool("ringcuts", data=b"ring 20\n")

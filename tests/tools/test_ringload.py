@@ -90,7 +90,7 @@ def line_of(call):
     word, *taken = call
     if word in ("book", "cancel"):
         return {"book": "book %d B%d %d", "cancel": "cancel %d"}[word] % tuple(taken)
-    words = ("fit", "stuck off", "stuck open", "stuck closed")
+    words = ("fit", "stuck off", "stuck open", "stuck closed", "locked", "unlocked")
     reports = ["%s%d %s" % (report.part.kind, report.part.number, words[report.word]) for report in taken]
     return reports[0] if word == "report" else "\n".join(["scan"] + reports + ["end"])
 
@@ -307,12 +307,30 @@ class Ringload(ToolCase):
                 "line 6: book 8 B1 0: refused 12, a booking has from 1 to 100000 watts",
                 "line 7: book 8 B1 100001: refused 12, a booking has from 1 to 100000 watts",
                 "line 8: cancel 8: refused 13, booking 8 is not live",
-                "line 9: G3 stuck open: refused 6, a generator is reported as fit or stuck off",
+                "line 9: G3 stuck open: refused 6, a generator is reported as fit, stuck off, locked or unlocked",
                 "line 10: GB4 fit: refused 5, a ring of 3 has GB1 to GB3",
                 "line 13: BB1 stuck off: refused 6, a breaker is reported as fit, stuck open or stuck closed"]
         answer = tool("ringload", data=lines)
         self.check(answer, 1, out.encode(), "^ringload: ")
         self.assertEqual(answer.said, "".join("ringload: %s\n" % line for line in said))
+
+    def test_locks(self):
+        """What is booked goes over to other generators when one is locked, is dark when all are, and goes back."""
+        lines = (b"ring 3\nbook 7 B3 1200\nG2 locked\nbook 8 B1 5\nscan\nG1 locked\nG3 locked\nend\nG2 fit\nscan\nG1 unlocked\nG2 unlocked\n"
+                 b"end\n")
+        self.check(tool("ringload", data=lines), 0, simulated_loads(lines))
+        self.check(tool("ringload", "--run", data=lines), 0, simulated_loads(lines, with_run=True))
+        figures = ["G1 0     G2 0     G3 0  dark 0", "G1 0     G2 1200  G3 0  dark 0", "G1 1200  G2 0     G3 0  dark 0",
+                   "G1 1205  G2 0     G3 0  dark 0", "G1 0     G2 0     G3 0  dark 1205", "G1 0     G2 0     G3 0  dark 1205",
+                   "G1 5     G2 1200  G3 0  dark 0"]
+        self.assertEqual([line[20:] for line in tool("ringload", data=lines).out.decode().splitlines()], figures)
+
+    def test_a_lock_for_a_breaker(self):
+        answer = tool("ringload", data=b"ring 3\nbook 7 B3 1200\nscan\nG2 locked\nGB1 locked\nend\nBB2 unlocked\ncancel 7\n")
+        self.check(answer, 1, b"ring 3              G1 0  G2 0     G3 0  dark 0\nbook 7 B3 1200      G1 0  G2 1200  G3 0  dark 0\n"
+                   b"scan of 2 reports   refused 6\nBB2 unlocked        refused 6\ncancel 7            G1 0  G2 0     G3 0  dark 0\n",
+                   "^ringload: line 5: GB1 locked: refused 6, .*; locks are for generators\n"
+                   "ringload: line 7: BB2 unlocked: refused 6, .*; locks are for generators\n$")
 
     def test_a_65th_booking_and_a_long_scan(self):
         lines = b"ring 3\n" + b"".join(b"book %d B1 1\n" % k for k in range(65)) + b"scan\n" + b"BB1 fit\n" * 300 + b"end\n"
@@ -351,7 +369,9 @@ class Ringload(ToolCase):
                             (b"end\n", "line 2: end: there is no `scan` before it"),
                             (b"unbook 7\n", "line 2: unbook 7: this names no part; parts are G1, GB1, BB1 and so on"),
                             (b"BB21 fit\n", "line 2: BB21 fit: BB are numbered from 1 to 20"),
-                            (b"BB2 maybe\n", "line 2: BB2 maybe: the word is none of: fit, stuck off, stuck open, stuck closed"),
+                            (b"BB2 maybe\n",
+                             "line 2: BB2 maybe: the word is none of: fit, stuck off, stuck open, stuck closed, locked, unlocked"),
+                            (b"G2 word 6\n", "line 2: G2 word 6: word 6 is none; a scan has no place for it"),
                             (b"code 99 word 2\n", "line 2: code 99 word 2: code 99 names no part; a scan has no place for it")):
             for words in ((), ("--run",)):
                 self.check(tool("ringload", *words, data=b"ring 3\n" + lines), 2, b"", "^%s\n$" % re.escape("ringload: " + said))

@@ -9,7 +9,7 @@ import time
 import unittest
 
 from support import (ScanCase, ToolCase, faultlines, make_vectors, path, program, read, ringsim, run, sim, simulated_scans,
-                     stored_cases, stored_runs, tool)
+                     stored_cases, stored_runs, tool, words_for)
 
 LINES = b"ring 3\nscan\nBB2 stuck open\nBB3 stuck open\nend\nBB2 fit\nscan\nend\n"
 START = b"0 B1=G1o B2=G2o B3=G2h / - / G1+ GB1+ G2+ GB2+ BB2+\n"
@@ -25,7 +25,7 @@ def reports(*triples):
 
 def report_line(report):
     """A report in words."""
-    words = ("fit", "stuck off", "stuck open", "stuck closed")
+    words = ("fit", "stuck off", "stuck open", "stuck closed", "locked", "unlocked")
     return "%s%d %s" % (report.part.kind, report.part.number, words[report.word])
 
 
@@ -71,10 +71,11 @@ class Program(unittest.TestCase):
 
     def test_the_gates_input(self):
         """Two faults, no reports, a bad one in the middle, a word 3 and its return, generators that return, one report, 64 and 65, a dark
-        ring that is lit from one source; what is refused changes nothing, since the next line goes on from the one before it."""
+        ring that is lit from one source, generators that are locked and unlocked, a lock for a breaker; what is refused changes nothing, since
+        the next line goes on from the one before it."""
         n, calls = make_vectors.gate_scans()
-        self.assertEqual([len(call) for call in calls], [2, 0, 3, 3, 3, 3, 1, 4, 64, 65, 6, 5, 2])
-        self.assertEqual(numbers_in(self.holds(n, calls)), [6, 11])
+        self.assertEqual([len(call) for call in calls], [2, 0, 3, 3, 3, 3, 1, 4, 64, 65, 6, 5, 2, 3, 1, 4, 2, 2])
+        self.assertEqual(numbers_in(self.holds(n, calls)), [6, 11, 6])
         self.assertEqual(read("crates", "ringscan", "stdin"), make_vectors.scans_file(n, calls))
         self.assertEqual(read("crates", "ringscan", "stdout"), text_of(n, calls))
         served = [call for call in calls if len(call) <= 64 and not any(sim.report_refusal(n, report) for report in call)]
@@ -88,11 +89,12 @@ class Program(unittest.TestCase):
         self.assertEqual(seen, {5, 6, 11})
 
     def test_stored_scans(self):
-        """Every third scan of a stored case that 9 does not refuse, behind one that makes the health of its record."""
+        """Every third scan of a stored case that 9 does not refuse, behind those that make the health and the locks of its record."""
         for case in [ScanCase(data) for data in list(stored_cases("vectors_scan"))[::3]]:
             if case.number != 9:
-                worn = [ringsim.report_of(code, word) for code, word in case.record.health.items() if word]
-                self.holds(case.record.n, [worn, case.reports if case.count <= 64 else case.places + [SHUT]])
+                worn = [ringsim.report_of(code, word) for code, word in words_for(case.record)]
+                before = [worn[at:at + 64] for at in range(0, len(worn), 64)]
+                self.holds(case.record.n, before + [case.reports if case.count <= 64 else case.places + [SHUT]])
 
     def test_every_size(self):
         for n in range(256):
@@ -266,7 +268,7 @@ class Ringscan(ToolCase):
         self.check(tool("ringscan", data=data), 1, simulated_scans(data),
                    "^ringscan: report 2: code 67 word 2: refused 5, a ring of 3 has BB1 to BB3\n"
                    "ringscan: report 3: BB2 stuck off: refused 6, a breaker is reported as fit, stuck open or stuck closed\n"
-                   "ringscan: report 4: G1 stuck closed: refused 6, a generator is reported as fit or stuck off\n$")
+                   "ringscan: report 4: G1 stuck closed: refused 6, a generator is reported as fit, stuck off, locked or unlocked\n$")
         self.assertEqual(numbers_in(simulated_scans(data)), [5, 6, 6])
         self.check(tool("ringscan", "--together", data=data), 1, START + b"refused 5\n",
                    "^ringscan: report 2: code 67 word 2: refused 5, .*\n$")
@@ -300,6 +302,25 @@ class Ringscan(ToolCase):
         self.check(answer, 1, START + b"refused 5\n2 B1=G1o B2=G2o B3=G1h / BB2- / BB3+\n",
                    "^ringscan: line 4: GB4 fit: refused 5, a ring of 3 has GB1 to GB3\n$")
 
+    def test_locks(self):
+        """G2 is locked, fails meanwhile, is replaced and stays out; in one cycle it is locked and unlocked."""
+        lines = b"ring 3\nG2 locked\nscan\nG2 stuck off\nBB3 stuck open\nG2 fit\nend\ng2 UNLOCKED\nscan\nG2 locked\nG2 unlocked\nend\n"
+        answer = tool("ringscan", data=lines)
+        self.check(answer, 0, simulated_scans(lines))
+        self.assertEqual(answer.out, START + b"1 B1=G1o B2=G1h B3=G1h / G2- GB2- BB2- / BB1+ BB3+\n"
+                         b"2 B1=G1o B2=G1h B3=G1l / BB3- / BB2+\n3 B1=G1o B2=G2o B3=G2h / BB1- / G2+ GB2+\n"
+                         b"4 B1=G1o B2=G2o B3=G2h / - / -\n")
+        self.check(tool("ringscan", "--together", data=lines), 0, simulated_scans(lines, together=True))
+        self.check(tool("ringscan", data=make_vectors.fault_file(3, [(1, 4), (1, 5)])), 0, simulated_scans(b"ring 3\nG2 locked\nG2 unlocked\n"))
+
+    def test_a_lock_for_a_breaker(self):
+        """A bad report: the scan is refused by 6, and nothing of it is served."""
+        answer = tool("ringscan", data=b"ring 3\nscan\nG1 locked\nGB1 locked\nend\nscan\nBB2 unlocked\nend\nG3 locked\n")
+        self.check(answer, 1, START + b"refused 6\nrefused 6\n3 B1=G1o B2=G2o B3=G2h / - / -\n",
+                   "^ringscan: line 4: GB1 locked: refused 6, a breaker is reported as fit, stuck open or stuck closed; locks are for generators\n"
+                   "ringscan: line 7: BB2 unlocked: refused 6, a breaker is reported as fit, stuck open or stuck closed; "
+                   "locks are for generators\n$")
+
     def test_many_refused_calls(self):
         answer = tool("ringscan", data=b"ring 3\n" + b"G1 stuck open\n" * 25)
         self.check(answer, 1, START + b"refused 6\n" * 25,
@@ -317,8 +338,11 @@ class Ringscan(ToolCase):
                             (b"scanning\n", "line 2: scanning: this names no part; parts are G1, GB1, BB1 and so on"),
                             (b"ring 3\n", "line 2: ring 3: this names no part; parts are G1, GB1, BB1 and so on"),
                             (b"BB21 fit\n", "line 2: BB21 fit: BB are numbered from 1 to 20"),
-                            (b"BB2 stuck\n", "line 2: BB2 stuck: the word is none of: fit, stuck off, stuck open, stuck closed"),
-                            (b"BB2\n", "line 2: BB2: the word is missing; words are: fit, stuck off, stuck open, stuck closed"),
+                            (b"BB2 stuck\n",
+                             "line 2: BB2 stuck: the word is none of: fit, stuck off, stuck open, stuck closed, locked, unlocked"),
+                            (b"BB2\n", "line 2: BB2: the word is missing; words are: fit, stuck off, stuck open, stuck closed, locked, unlocked"),
+                            (b"G1 lock\n", "line 2: G1 lock: the word is none of: fit, stuck off, stuck open, stuck closed, locked, unlocked"),
+                            (b"G1 word 6\n", "line 2: G1 word 6: word 6 is none; a scan has no place for it"),
                             (b"code 99 word 2\n", "line 2: code 99 word 2: code 99 names no part; a scan has no place for it"),
                             (b"BB1 word 7\n", "line 2: BB1 word 7: word 7 is none; a scan has no place for it"),
                             (b"code 300 word 2\n", "line 2: code 300 word 2: a code is at most 255")):

@@ -17,7 +17,8 @@ class Ringtrace(ToolCase):
 
     def test_by_the_simulation(self):
         rng = random.Random(17)
-        files = [data for data, _ in stored_runs()][:400:4] + list(make_vectors.outward_files()) + [sim.fault_file(rng) for _ in range(60)]
+        files = [data for data, _ in stored_runs()][:400:4] + list(make_vectors.locked_generators())[::3]
+        files += list(make_vectors.outward_files()) + [sim.fault_file(rng) for _ in range(60)]
         for data in files:
             self.assertEqual(program("ringtrace", data).out.decode(), make_vectors.trace_text(data), data)
 
@@ -49,6 +50,24 @@ class Ringview(ToolCase):
         self.assertEqual(lit["feeds"], ["- - - - -", "- - - - -", "- - G3 - -", "- G3 G3 - -", "G3 G3 G3 - -", "G3 G3 G3 - G3",
                                         "G3 G3 G3 G3 G3"])
 
+    def test_locks(self):
+        """G1 stops feeding with the word, before the first stroke; when it is replaced nothing changes, and unlocked it starts."""
+        told = story(self.page(b"ring 3\nG1 locked\nG1 stuck off\nG1 fit\nG1 unlocked\n"))
+        self.assertEqual([call["report"] for call in told["calls"]], ["", "G1 locked", "G1 stuck off", "G1 fit", "G1 unlocked"])
+        self.assertEqual(told["calls"][1], {
+            "report": "G1 locked", "line": "1 B1=G2h B2=G2o B3=G2h / G1- GB1- / BB1+", "strokes": ["G1-", "GB1-", "BB1+"],
+            "feeds": ["- G2 G2", "- G2 G2", "- G2 G2", "G2 G2 G2"]})
+        for call in told["calls"][2:4]:
+            self.assertEqual((call["strokes"], call["feeds"]), ([], ["G2 G2 G2"]))
+        self.assertEqual((told["calls"][4]["strokes"], told["calls"][4]["feeds"]),
+                         (["BB1-", "G1+", "GB1+"], ["G2 G2 G2", "- G2 G2", "- G2 G2", "G1 G2 G2"]))
+
+    def test_the_page_says_that_a_generator_is_locked(self):
+        """In words and by a padlock, which its key explains; what it shows is seen in tests/browser."""
+        page = self.page(b"ring 3\nG1 locked\n").decode()
+        self.assertIn('"locked" : ""', page)
+        self.assertRegex(page, r'class="padlock".*locked out for service: does not start')
+
     def test_no_network(self):
         page = self.page(b"ring 20\n").decode()
         self.assertEqual(set(re.findall(r"https?://[^\"' ]*", page)), {"http://www.w3.org/2000/svg"})
@@ -66,6 +85,7 @@ class Ringview(ToolCase):
 
     def test_refused(self):
         self.check(tool("ringview", data=b"ring 3\nG1 stuck open\n"), 1, b"", "refused 6; bin/faultfile check says why")
+        self.check(tool("ringview", data=b"ring 3\nGB1 locked\n"), 1, b"", "refused 6; bin/faultfile check says why")
         self.check(tool("ringview", data=b"ring 3\nG9 fit\n"), 2, b"", "line 2: G9 fit")
 
     def test_longest(self):

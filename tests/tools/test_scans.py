@@ -20,7 +20,7 @@ def steps_of(case):
 
 
 def choice_bytes(choices):
-    return make_vectors.answer_bytes(ringsim.Answer(0, ringsim.Record(3), choices), b"")[655:]
+    return make_vectors.answer_bytes(ringsim.Answer(0, ringsim.Record(3), choices), b"")[675:]
 
 
 class Counts(unittest.TestCase):
@@ -81,7 +81,7 @@ class Reports(unittest.TestCase):
 
     def test_any_report_may_stand_past_the_count(self):
         past = [report for case in SERVED for report in case.places[case.count:]]
-        self.assertEqual({(report.part.kind, report.word) for report in past}, {(k, w) for k in make_vectors.KINDS for w in range(4)})
+        self.assertEqual({(report.part.kind, report.word) for report in past}, {(k, w) for k in make_vectors.KINDS for w in range(6)})
         self.assertLessEqual({0, 1, 20, 21, 128, 255}, {report.part.number for report in past})
 
 
@@ -95,8 +95,7 @@ class Answers(unittest.TestCase):
 
     def test_record_and_choices_are_those_that_single_steps_end_with(self):
         for case in SERVED:
-            n, health = case.record.n, case.record.health
-            last, choices = case.record, sim.choose(n, health, ringsim.no_locks())
+            last, choices = case.record, sim.choose(case.record.n, case.record.health, case.record.locks)
             for answer, _ in steps_of(case):
                 self.assertEqual(answer.refusal, 0)
                 last, choices = answer.record, answer.choices
@@ -146,7 +145,7 @@ class Words(unittest.TestCase):
         return False
 
     def test_the_last_word_decides(self):
-        for words in ((2, 3, 2), (2, 3), (3, 2), (2, 0), (3, 0), (0, 3), (1, 1), (1, 0), (0, 1), (0, 1, 0)):
+        for words in ((2, 3, 2), (2, 3), (3, 2), (2, 0), (3, 0), (0, 3), (1, 1), (1, 0), (0, 1), (0, 1, 0), (4, 5), (5, 4), (4, 4, 5)):
             self.assertTrue(self.served_with(*words), words)
         self.assertTrue(self.served_with(*[2] * 64))
 

@@ -62,7 +62,7 @@ pub record RecordIn (case : List ℕ) (from : ℕ) (outcome : Outcome) (state : 
 -- an answer stands from an index on: the number of its outcome, the record and the choices of all twenty buses
 pub record AnswerIn (case : List ℕ) (from : ℕ) (answer : StateAnswer) : Type 0 where
   pub record-in : RecordIn case from (answer .outcome) (answer .state)
-  pub choices : ChoicesIn largest case (from + 655) (answer .choices)
+  pub choices : ChoicesIn largest case (from + 675) (answer .choices)
 
 -- ---- what a part's and a word's bytes say
 

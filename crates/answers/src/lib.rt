@@ -107,7 +107,7 @@ fn same_choices(choices: [BusChoice; 20], case: &[u8], from: usize) -> bool
 
 // Whether an outcome's number and a ring state are those that a case holds from an index on.
 fn same_record(outcome: Outcome, state: RingState, case: &[u8], from: usize) -> bool
-    requires { ⌜ from + 655 ≤ length (now case) ⌝ }
+    requires { ⌜ from + 675 ≤ length (now case) ⌝ }
     ensures { λ r. ⌜ (r ≡ true → RecordIn (now (case .entry)) from outcome state) ⌝ }
 {
     if cases::outcome_number(outcome) != case[from] {
@@ -118,7 +118,7 @@ fn same_record(outcome: Outcome, state: RingState, case: &[u8], from: usize) -> 
 
 // Whether an answer is the one that a case holds from an index on: the number of the outcome, the ring state and the choices.
 pub fn same(answer: StateAnswer, case: &[u8], from: usize) -> bool
-    requires { ⌜ from + 695 ≤ length (now case) ⌝ }
+    requires { ⌜ from + 715 ≤ length (now case) ⌝ }
     ensures { λ r. ⌜ (r ≡ true → AnswerIn (now (case .entry)) from answer) ⌝ }
 {
     let outcome = answer.outcome;
@@ -127,12 +127,12 @@ pub fn same(answer: StateAnswer, case: &[u8], from: usize) -> bool
     if !same_record(outcome, state, case, from) {
         return false;
     }
-    same_choices(choices, case, from + 655)
+    same_choices(choices, case, from + 675)
 }
 
 // Whether the answer of a booking or of a cancellation is the one that a case holds from an index on.
 pub fn same_booking(answer: BookingAnswer, case: &[u8], from: usize) -> bool
-    requires { ⌜ from + 655 ≤ length (now case) ⌝ }
+    requires { ⌜ from + 675 ≤ length (now case) ⌝ }
     ensures { λ r. ⌜ (r ≡ true → RecordIn (now (case .entry)) from (answer .outcome) (answer .state)) ⌝ }
 {
     let outcome = answer.outcome;

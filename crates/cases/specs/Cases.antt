@@ -13,16 +13,17 @@ use Rattle.model.specs.Reports.{places}
 abbrev pub bytesAt : List ℕ → ℕ → List ℕ
 bytesAt case from = places (λ i. getD case (from + i) 0)
 
--- twenty commands: 1 is on or closed
+-- twenty commands or locks: 1 is on or closed, or locked
 abbrev pub boolsAt : List ℕ → ℕ → List Bool
 boolsAt case from = places (λ i. eqb (getD case (from + i) 0) 1)
 
--- the health of every part
+-- the health of every part, and the locks
 abbrev pub healthAt : List ℕ → ℕ → Health
 healthAt case from = record {
   generators = bytesAt case from;
   «generator_breakers» = bytesAt case (from + 20);
   «bus_breakers» = bytesAt case (from + 40);
+  locked = boolsAt case (from + 60);
 }
 
 -- the command of every part
@@ -33,6 +34,6 @@ commandsAt case from = record {
   «bus_breakers» = boolsAt case (from + 40);
 }
 
--- a ring of n buses with its healths and its commands
+-- a ring of n buses with its healths, its locks and its commands
 abbrev pub ringAt : List ℕ → ℕ → ℕ → Ring
-ringAt case n from = record { n = n; health = healthAt case from; commands = commandsAt case (from + 60) }
+ringAt case n from = record { n = n; health = healthAt case from; commands = commandsAt case (from + 80) }

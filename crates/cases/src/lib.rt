@@ -22,7 +22,7 @@ pub fn bytes_at(case: &[u8], from: usize) -> [u8; 20]
     bytes
 }
 
-// Twenty commands of a case: 1 is on or closed.
+// Twenty commands or locks of a case: 1 is on or closed, or locked.
 pub fn bools_at(case: &[u8], from: usize) -> [bool; 20]
     requires { ⌜ from + 20 ≤ length (now case) ⌝ }
     ensures { λ r. ⌜ r ≡ boolsAt (now (case .entry)) from ⌝ }
@@ -34,15 +34,16 @@ pub fn bools_at(case: &[u8], from: usize) -> [bool; 20]
     bools
 }
 
-// The health of every part, a byte each.
+// The health of every part, a byte each, then "the lock beside the health" (document 02, Note 7) of every generator.
 pub fn health_at(case: &[u8], from: usize) -> Health
-    requires { ⌜ from + 60 ≤ length (now case) ⌝ }
+    requires { ⌜ from + 80 ≤ length (now case) ⌝ }
     ensures { λ r. ⌜ r ≡ healthAt (now (case .entry)) from ⌝ }
 {
     Health {
         generators: bytes_at(case, from),
         generator_breakers: bytes_at(case, from + 20),
         bus_breakers: bytes_at(case, from + 40),
+        locked: bools_at(case, from + 60),
     }
 }
 
@@ -58,15 +59,15 @@ pub fn commands_at(case: &[u8], from: usize) -> Commands
     }
 }
 
-// A ring of n buses, its healths and its commands.
+// A ring of n buses, its healths and locks, and its commands.
 pub fn ring_at(case: &[u8], n: u8, from: usize) -> Ring
-    requires { ⌜ from + 120 ≤ length (now case) ⌝ }
+    requires { ⌜ from + 140 ≤ length (now case) ⌝ }
     ensures { λ r. ⌜ r ≡ ringAt (now (case .entry)) n from ⌝ }
 {
     Ring {
         n,
         health: health_at(case, from),
-        commands: commands_at(case, from + 60),
+        commands: commands_at(case, from + 80),
     }
 }
 

@@ -5,7 +5,19 @@ use model::Commands;
 use model::Health;
 use model::Ring;
 
-// Whether two rings have the same health.
+// Whether two rings have the same locks.
+fn same_locks(ours: Health, theirs: Health) -> bool
+    ensures { λ r. ⌜ (r ≡ true → ours .locked ≡ theirs .locked) ⌝ }
+{
+    for i in 0..20 {
+        if ours.locked[i] != theirs.locked[i] {
+            return false;
+        }
+    }
+    true
+}
+
+// Whether two rings have the same health, and "the lock beside the health" (document 02, Note 7).
 fn same_health(ours: Health, theirs: Health) -> bool
     ensures { λ r. ⌜ (r ≡ true → ours ≡ theirs) ⌝ }
 {
@@ -21,7 +33,10 @@ fn same_health(ours: Health, theirs: Health) -> bool
     if !check::same(&our_generator_breakers, &their_generator_breakers) {
         return false;
     }
-    check::same(&our_bus_breakers, &their_bus_breakers)
+    if !check::same(&our_bus_breakers, &their_bus_breakers) {
+        return false;
+    }
+    same_locks(ours, theirs)
 }
 
 // Whether two rings have the same commands.

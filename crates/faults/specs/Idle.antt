@@ -3,7 +3,7 @@ use mathlib.Core.Path.{_≡_, sym, _∙_, ap}
 use mathlib.Core.Bool.{Bool, true, false, not}
 use Prim.Native.Nat.{ℕ}
 use Rattle.model.specs.declared.Part.{Part}
-use Rattle.model.specs.Plant.{PartHealth, generator, generatorBreaker, busBreaker, fit, stuckOpen}
+use Rattle.model.specs.Plant.{PartHealth, generator, generatorBreaker, busBreaker, fitGenerator, stuckOpen}
 use Rattle.model.specs.Priority.{Path}
 use Rattle.model.specs.CutSets.{canFail}
 use Rattle.model.specs.Laws.Tests.{contra, not-of, and-left, and-right, and-intro}
@@ -21,21 +21,21 @@ module _ (n : ℕ) (H : PartHealth) where
   source-feeds : {b : ℕ} {w : Path} → Supplies n H b w → mayFeed H (w .source) ≡ true
   unfolding mayFeed
   source-feeds {w = w} s =
-      and-intro (fit (H .health (generator (w .source)))) _ (s .usable .runs)
+      and-intro (fitGenerator H (w .source)) _ (s .usable .runs)
       (not-of (stuckOpen (H .health (generatorBreaker (w .source)))) (s .usable .breaker))
 
   module _ (g : ℕ) {r : Bool} (is : r ≡ mayFeed H g) where
     pub generator-matters : Matters n H (generator g) r
     unfolding canFail mayFeed
     generator-matters = record {
-      fails = λ e. and-left (fit (H .health (generator g))) _ (sym is ∙ e);
+      fails = λ e. and-left (fitGenerator H g) _ (sym is ∙ e);
       idle = λ e b w s m. contra (source-feeds s) (ap (mayFeed H) (sym (generator-on n w g m)) ∙ sym is ∙ e);
     }
 
     pub generator-breaker-matters : Matters n H (generatorBreaker g) r
     unfolding canFail mayFeed
     generator-breaker-matters = record {
-      fails = λ e. and-right (fit (H .health (generator g))) _ (sym is ∙ e);
+      fails = λ e. and-right (fitGenerator H g) _ (sym is ∙ e);
       idle = λ e b w s m. contra (source-feeds s) (ap (mayFeed H) (sym (generator-breaker-on n w g m)) ∙ sym is ∙ e);
     }
 

@@ -21,7 +21,7 @@ use Rattle.model.specs.CutSets.{withFaults}
 use Rattle.model.specs.Laws.Tests.{dec, dec-eq, dec-lt}
 use Rattle.model.specs.Laws.Lists.{below-length, map-below-at}
 use Rattle.model.specs.Laws.Parts.{parts-length, arrayOf, withArray}
-use Rattle.model.specs.Laws.CutSets.{fault}
+use Rattle.model.specs.Laws.CutSets.{fault, faults-locked}
 
 -- the part at a place among the parts of a ring of n
 unfoldable pub partAt : ℕ → ℕ → Part
@@ -114,10 +114,10 @@ stored l i v h (suc j) = go (dec-eq j i)
 pub fault-stored : (h : Health) (p : Part) (i : ℕ) → number p ≡ suc i → i < length (arrayOf h p)
     → healthOf (withArray h p (set (arrayOf h p) i (fault p))) ≡ withFaults (healthOf h) (p ∷ [])
 unfolding healthOf withFaults reported samePart
-fault-stored h p i e l = fun-ext (go p e l)
+fault-stored h p i e l = λ x. record { health = fun-ext (go p e l) x; locked = fun-ext (lock p) x }
   where
     go : (p : Part) → number p ≡ suc i → i < length (arrayOf h p) → (q : Part)
-        → healthOf (withArray h p (set (arrayOf h p) i (fault p))) q ≡ withFaults (healthOf h) (p ∷ []) q
+        → healthOf (withArray h p (set (arrayOf h p) i (fault p))) .health q ≡ withFaults (healthOf h) (p ∷ []) .health q
     go (Generator k) e l (Generator j) = rw e (stored (h .generators) i 1 l j)
     go (Generator k) e l (GeneratorBreaker j) = refl
     go (Generator k) e l (BusBreaker j) = refl
@@ -127,3 +127,9 @@ fault-stored h p i e l = fun-ext (go p e l)
     go (BusBreaker k) e l (Generator j) = refl
     go (BusBreaker k) e l (GeneratorBreaker j) = refl
     go (BusBreaker k) e l (BusBreaker j) = rw e (stored (h .«bus_breakers») i 2 l j)
+
+    -- "Neither lock nor health alters the other" (Note 7)
+    lock : (p : Part) (g : ℕ) → healthOf (withArray h p (set (arrayOf h p) i (fault p))) .locked g ≡ withFaults (healthOf h) (p ∷ []) .locked g
+    lock (Generator k) g = sym (faults-locked (healthOf h) (Generator k ∷ []) g)
+    lock (GeneratorBreaker k) g = sym (faults-locked (healthOf h) (GeneratorBreaker k ∷ []) g)
+    lock (BusBreaker k) g = sym (faults-locked (healthOf h) (BusBreaker k ∷ []) g)

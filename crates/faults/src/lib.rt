@@ -12,22 +12,30 @@ use model::STUCK_OFF;
 use model::STUCK_OPEN;
 
 // Whether the part at place p can fail and is on a path: "A further fault is a fit generator going off, or a breaker not stuck open
-// becoming so." A generator and its breaker are on no path where one of the two is out; then neither is in any set.
+// becoming so." A generator and its breaker are on no path where one of the two is out, or the generator locked; then neither is in any set.
 pub fn matters(n: usize, health: Health, p: usize) -> bool
     requires { ⌜ (p < 3 * n) × (n ≤ 20) ⌝ }
     ensures { λ r. ⌜ Matters n (healthOf health) (partAt n p) r ⌝ }
 {
     if p < n {
-        return sources::may_feed(health.generators[p], health.generator_breakers[p]);
+        return sources::may_feed(
+            health.generators[p],
+            health.locked[p],
+            health.generator_breakers[p],
+        );
     }
     if p < n + n {
         let k = p - n;
-        return sources::may_feed(health.generators[k], health.generator_breakers[k]);
+        return sources::may_feed(
+            health.generators[k],
+            health.locked[k],
+            health.generator_breakers[k],
+        );
     }
     health.bus_breakers[p - (n + n)] != STUCK_OPEN
 }
 
-// The health after the further fault of the part at place p.
+// The health after the further fault of the part at place p; it alters no lock.
 pub fn failed(n: usize, health: Health, p: usize) -> Health
     requires { ⌜ (p < 3 * n) × (n ≤ 20) ⌝ }
     ensures { λ r. ⌜ healthOf r ≡ withFaults (healthOf health) (partAt n p ∷ []) ⌝ }

@@ -1,7 +1,7 @@
 // Whether a generator feeds a bus, by the health and the commands of the parts (document 01, "The plant").
 // Buses, generators and breakers are indices from 0 here, the paper's numbers less 1.
 ghost use mathlib.Core.Path.{_≡_};
-ghost use mathlib.Core.Bool.{_&&_};
+ghost use mathlib.Core.Bool.{_&&_, not};
 ghost use Prim.Native.Nat.{_≤_, _<_};
 ghost use Rattle.model.specs.Lists.{allOf};
 ghost use Rattle.model.specs.Plant.{fit, closed, up, arc, connected as connectedBuses, busBreakerClosed, feeds as feedsOf};
@@ -11,11 +11,11 @@ use model::Health;
 use model::STUCK_CLOSED;
 use model::STUCK_OPEN;
 
-// "A generator is running when it is fit and ordered on"
-fn is_running(health: u8, command: bool) -> bool
-    ensures { λ r. ⌜ r ≡ fit health && command ⌝ }
+// "A generator is running when it is fit and ordered on"; fit is "not stuck off and not locked" (document 02, Note 7).
+fn is_running(health: u8, locked: bool, command: bool) -> bool
+    ensures { λ r. ⌜ r ≡ (fit health && not locked) && command ⌝ }
 {
-    let runs = components::fit_generator(health);
+    let runs = components::fit_generator(health, locked);
     runs && command
 }
 
@@ -61,7 +61,11 @@ pub fn feeds_bus(n: usize, health: Health, commands: Commands, b: usize, g: usiz
     requires size { ⌜ n ≤ 20 ⌝ }
     ensures { λ r. ⌜ r ≡ feedsOf n (healthOf health) (commandsOf commands) b g ⌝ }
 {
-    is_running(health.generators[g], commands.generators[g])
+    is_running(
+        health.generators[g],
+        health.locked[g],
+        commands.generators[g],
+    )
         && (is_closed(health.generator_breakers[g], commands.generator_breakers[g])
             && connected(n, health, commands, g, b))
 }

@@ -47,7 +47,7 @@ loadAt case from = record {
 
 -- a ring of n buses, and the load behind it
 abbrev pub stateAt : List ℕ → ℕ → ℕ → RingState
-stateAt case n from = record { ring = ringAt case n from; load = loadAt case (from + 120) }
+stateAt case n from = record { ring = ringAt case n from; load = loadAt case (from + 140) }
 
 -- ---- the places of bookings
 

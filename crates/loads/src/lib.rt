@@ -83,11 +83,11 @@ pub fn load_at(case: &[u8], from: usize) -> Load
 
 // A ring state of n buses: the ring, and the load behind it.
 pub fn state_at(case: &[u8], n: u8, from: usize) -> RingState
-    requires { ⌜ from + 653 ≤ length (now case) ⌝ }
+    requires { ⌜ from + 673 ≤ length (now case) ⌝ }
     ensures { λ r. ⌜ r ≡ stateAt (now (case .entry)) n from ⌝ }
 {
     RingState {
         ring: cases::ring_at(case, n, from),
-        load: load_at(case, from + 120),
+        load: load_at(case, from + 140),
     }
 }

@@ -9,7 +9,7 @@ use lib.ListN.{length}
 use borrow.Author.Tests.{not-true, eq-eqb, ne-eqb, lt-ltb, le-ltb}
 use Rattle.model.specs.declared.Part.{Part}
 use Rattle.model.specs.Lists.{isNone, _∈_}
-use Rattle.model.specs.Plant.{PartHealth, generator, generatorBreaker, busBreaker, fit, stuckOpen, up, Reaches}
+use Rattle.model.specs.Plant.{PartHealth, generatorBreaker, busBreaker, fitGenerator, stuckOpen, up, Reaches}
 use Rattle.model.specs.Priority.{Path, pathParts, ownPath}
 use Rattle.model.specs.Choosing.{plan}
 use Rattle.model.specs.CutSets.{withFaults, darkens}
@@ -41,10 +41,10 @@ pub record Least (n : ℕ) (H : PartHealth) (b k : ℕ) : Type 0 where
   pub dark : k ≡ 0 → isNone (plan n H b) ≡ true
 
 module _ (n : ℕ) (H : PartHealth) (b : ℕ) (hb : b < n) where
-  may-feed-at : (g : ℕ) → mayFeed H g ≡ true → (fit (H .health (generator g)) ≡ true) × (stuckOpen (H .health (generatorBreaker g)) ≡ false)
+  may-feed-at : (g : ℕ) → mayFeed H g ≡ true → (fitGenerator H g ≡ true) × (stuckOpen (H .health (generatorBreaker g)) ≡ false)
   unfolding mayFeed
   may-feed-at g e =
-      let A = fit (H .health (generator g)) in
+      let A = fitGenerator H g in
       (and-left A _ e, not-true (stuckOpen (H .health (generatorBreaker g))) (and-right A _ e))
 
   -- ---- the paths that supply the bus
@@ -220,7 +220,7 @@ module _ (n : ℕ) (H : PartHealth) (b : ℕ) (hb : b < n) where
         }
       where
         feeds : (g : ℕ) → Reaches n H b g → mayFeed H g ≡ true
-        feeds g r = and-intro (fit (H .health (generator g))) _ (r .runs) (not-of (stuckOpen (H .health (generatorBreaker g))) (r .breaker))
+        feeds g r = and-intro (fitGenerator H g) _ (r .runs) (not-of (stuckOpen (H .health (generatorBreaker g))) (r .breaker))
 
         unreached : (rise ≡ 0) × (fall ≡ 0) → (g : ℕ) → Reaches n H b g → (g ≡ b) ⊎ (g ≢ b) → ⊥
         unreached z g r (inl q) = contra (feeds g r) (rw q e)

@@ -25,7 +25,11 @@ fn steps_to_generator(n: usize, health: Health, b: usize, rising: bool) -> usize
         }
         k = walks::bus_beside(n, k, rising);
         steps += 1;
-        if sources::may_feed(health.generators[k], health.generator_breakers[k]) {
+        if sources::may_feed(
+            health.generators[k],
+            health.locked[k],
+            health.generator_breakers[k],
+        ) {
             return steps;
         }
     }
@@ -60,7 +64,11 @@ pub fn least_faults(n: usize, health: Health, b: usize) -> usize
     let rise = steps_to_generator(n, health, b, true);
     let fall = steps_to_generator(n, health, b, false);
     let sides = side_paths(n, rise, fall);
-    if sources::may_feed(health.generators[b], health.generator_breakers[b]) {
+    if sources::may_feed(
+        health.generators[b],
+        health.locked[b],
+        health.generator_breakers[b],
+    ) {
         return sides + 1;
     }
     sides

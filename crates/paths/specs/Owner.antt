@@ -10,7 +10,7 @@ use native.Mathlib.Omega.{arith}
 use lib.Dec.{eqb}
 use borrow.Author.Tests.{eqb-true, eq-eqb, not-true}
 use Rattle.model.specs.Lists.{first, _∈_}
-use Rattle.model.specs.Plant.{PartHealth, generator, generatorBreaker, busBreaker, fit, stuckOpen, stuckClosed, next, up, Leads, connected}
+use Rattle.model.specs.Plant.{PartHealth, generatorBreaker, busBreaker, fitGenerator, stuckOpen, stuckClosed, next, up, Leads, connected}
 use Rattle.model.specs.Priority.{Path, pathBusBreakers, paths}
 use Rattle.model.specs.Choosing.{countedClosed, permitted, choose}
 use Rattle.model.specs.Laws.Tests.{contra, not-of, and-left, and-right, and-intro, or-cases, or-right, iff, dec, dec-eq}
@@ -220,7 +220,7 @@ module _ {n : ℕ} {H : PartHealth} {ws : List Path} {w : Path} (safe : Safe n H
       to : permitted n H ws w ≡ true → passes n H O w ≡ true
       to e =
           let t = permitted-at ends e in
-          and-intro (mayFeed H g) _ (and-intro (fit (H .health (generator g))) _ (t .0 .runs)
+          and-intro (mayFeed H g) _ (and-intro (fitGenerator H g) _ (t .0 .runs)
           (not-of (stuckOpen (H .health (generatorBreaker g))) (t .0 .breaker)))
           (clear-of n B O (suc g) (upper w) (upper-lt h) (up n (lower w) (upper w)) (lower w) (lower-lt h) refl
           (record { line = t .0 .line; buses = λ x b. rw (is x (b .0)) (free-all (t .1) x b) }))
@@ -232,8 +232,8 @@ module _ {n : ℕ} {H : PartHealth} {ws : List Path} {w : Path} (safe : Safe n H
           (and-right (mayFeed H g) _ e) in
           permitted-of ends
           (record {
-            runs = and-left (fit (H .health (generator g))) _ u;
-            breaker = not-true (stuckOpen (H .health (generatorBreaker g))) (and-right (fit (H .health (generator g))) _ u);
+            runs = and-left (fitGenerator H g) _ u;
+            breaker = not-true (stuckOpen (H .health (generatorBreaker g))) (and-right (fitGenerator H g) _ u);
             line = c .line;
           })
           (frees (λ x b. rw (is x (b .0)) at (c .buses x b)))

@@ -1,4 +1,4 @@
--- "Parts above n are not read.": the answer is that of any other health and commands that agree on the parts of the ring.
+-- "Parts above n are not read.": the answer is that of any other health, locks and commands that agree on the parts of the ring.
 use mathlib.Core.Path.{_≡_, ap}
 use mathlib.Core.Bool.{Bool, not, _&&_, cond}
 use Prim.Native.Nat.{ℕ}
@@ -15,15 +15,15 @@ use Rattle.model.specs.Answers.{feedsAnswer}
 use Rattle.model.specs.Laws.Tests.{and-right, cond-ext}
 use Rattle.model.specs.Laws.Lists.{any-ext}
 use Rattle.model.specs.Laws.Parts.{parts-at, places-ext}
-use Rattle.theory.specs.Theorems.Locality.{Agree, feed-ext}
+use Rattle.theory.specs.Theorems.Locality.{Agree, SameHealth, feed-ext}
 
 -- the refusal, and the whole answer
-pub refusal-ext : (n : ℕ) (H K : PartHealth) → Agree n H K → feedsRefusal n H ≡ feedsRefusal n K
+pub refusal-ext : (n : ℕ) (H K : PartHealth) → SameHealth n H K → feedsRefusal n H ≡ feedsRefusal n K
 unfolding feedsRefusal healthOutside
 refusal-ext n H K same = rw (any-ext (λ p. not (healthOfKind p (H .health p))) (λ p. not (healthOfKind p (K .health p))) (parts n)
-    (λ p m. rw (same p (parts-at n p m))))
+    (λ p m. rw (same .health p (parts-at n p m))))
 
-pub answer-ext : (n : ℕ) (h k : Health) (c d : Commands) → Agree n (healthOf h) (healthOf k) → Agree n (commandsOf c) (commandsOf d)
+pub answer-ext : (n : ℕ) (h k : Health) (c d : Commands) → SameHealth n (healthOf h) (healthOf k) → Agree n (commandsOf c) (commandsOf d)
     → feedsAnswer n h c ≡ feedsAnswer n k d
 unfolding feedsAnswer
 answer-ext n h k c d same both =

@@ -75,7 +75,8 @@ fn refused(number: u8) -> FeedsAnswer
     }
 }
 
-// "The plant reckoning takes n, the health of all parts and any set of orders."; it checks "2, then 9".
+// "The plant reckoning takes n, the health of all parts and any set of orders."; "the plant reckoning takes them with the health" (document
+// 02, Note 7), the locks; it checks "2, then 9".
 pub fn feeds(n: u8, health: Health, commands: Commands) -> FeedsAnswer
     ensures answer { λ r. ⌜ r ≡ feedsAnswer n health commands ⌝ }
     ensures number { λ r. ⌜ outcomeNumber (r .outcome) ≡ feedsRefusal n (healthOf health) ⌝ }

@@ -14,7 +14,7 @@ use Rattle.model.specs.Lists.{anyOf}
 use Rattle.model.specs.Plant.{PartHealth, PartCommands, largest, parts}
 use Rattle.model.specs.Choosing.{commands}
 use Rattle.model.specs.Reports.{healthOf, commandsOf, commandPlaces, calledFor}
-use Rattle.model.specs.Refusals.{sizeOutside, healthOutside, activeAbove, unplanned, badRing}
+use Rattle.model.specs.Refusals.{sizeOutside, healthOutside, activeAbove, lockedAbove, unplanned, badRing}
 use Rattle.model.specs.Bookings.{mostLive, liveBookings, liveTwice, bookingOutside, otherFigures, badLoad}
 use Rattle.model.specs.States.{badRecord}
 use Rattle.model.specs.Laws.Tests.{dec, dec-lt}
@@ -28,7 +28,7 @@ pub differ-planned : (n : ℕ) (H : PartHealth) (C : PartCommands) (D : Commands
 unfolding anyDiffer unplanned
 differ-planned n H C D e = rw e (any-ext _ _ (parts largest) (λ p m. rw (command-places (commands n H) p (parts-at largest p m))))
 
--- the four conditions of the ring, in turn, and then those of the load
+-- the five conditions of the ring, in turn, and then those of the load
 module _ (state : RingState) where
   abbrev ring : Ring
   ring = state .ring
@@ -52,13 +52,21 @@ module _ (state : RingState) where
   unfolding badRecord badRing anyOf
   bad-above a b c = rw (a, b, c)
 
+  pub bad-lock : sizeOutside (ring .n) ≡ false → healthOutside H (parts largest) ≡ false → activeAbove (ring .n) H C ≡ false
+      → lockedAbove (ring .n) H ≡ true
+      → true ≡ badRecord state
+  unfolding badRecord badRing anyOf
+  bad-lock a b c d = rw (a, b, c, d)
+
   pub bad-commands : sizeOutside (ring .n) ≡ false → healthOutside H (parts largest) ≡ false → activeAbove (ring .n) H C ≡ false
+      → lockedAbove (ring .n) H ≡ false
       → unplanned (ring .n) H C ≡ true
       → true ≡ badRecord state
   unfolding badRecord badRing anyOf
-  bad-commands a b c d = rw (a, b, c, d)
+  bad-commands a b c d e = rw (a, b, c, d, e)
 
   pub load-decides : sizeOutside (ring .n) ≡ false → healthOutside H (parts largest) ≡ false → activeAbove (ring .n) H C ≡ false
+      → lockedAbove (ring .n) H ≡ false
       → unplanned (ring .n) H C ≡ false
       → (cs : List BusChoice)
       → cs ≡ calledFor ring
@@ -66,7 +74,7 @@ module _ (state : RingState) where
       → r ≡ badLoad (ring .n) cs (state .load)
       → r ≡ badRecord state
   unfolding badRecord badRing anyOf
-  load-decides a b c d cs e r f = rw (a, b, c, d, ← e) f
+  load-decides a b c d e cs f r g = rw (a, b, c, d, e, ← f) g
 
 -- the four conditions of a load, in turn: the answer r, however the code words its tests
 module _ (n : ℕ) (cs : List BusChoice) (l : Load) where

@@ -27,7 +27,8 @@ fn bad_load(n: u8, choices: [BusChoice; 20], load: Load) -> bool
 }
 
 // "In a record, number 9 is met when n is outside 3 to 20, a health is not one of its part's kind, a part above n is not fit or not
-// ordered off or open, or the standing orders differ from those the health calls for."; then what it is also met by.
+// ordered off or open, or the standing orders differ from those the health calls for."; "A part above n must be unlocked, or the record meets
+// refusal 9; the standing orders there are those that health and locks call for." (document 02, Note 7); then what it is also met by.
 pub fn bad_record(state: RingState) -> bool
     ensures { λ r. ⌜ r ≡ badRecord state ⌝ }
 {
@@ -39,6 +40,9 @@ pub fn bad_record(state: RingState) -> bool
         return true;
     }
     if standing::active_above(ring.n as usize, ring.health, ring.commands) {
+        return true;
+    }
+    if standing::locked_above(ring.n as usize, ring.health) {
         return true;
     }
     let planned = planner::plan(ring.n, ring.health);

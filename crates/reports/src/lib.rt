@@ -14,7 +14,8 @@ use model::ReportAnswer;
 use model::Word;
 use model::WordAnswer;
 
-// Condition 6 of a word for a breaker: all breakers take the same words.
+// Condition 6 of a word for a breaker: all breakers take the same words. "refusal 6 now meets words above 5 and these two for a breaker"
+// (document 02, Note 7): a lock and an unlock.
 fn check_breaker_word(word: Word) -> Outcome
     ensures { λ r. ⌜ r ≡ outcomeOf (firstMet (wordConditions (Part.BusBreaker 1) word)) ⌝ }
 {
@@ -23,10 +24,13 @@ fn check_breaker_word(word: Word) -> Outcome
         Word::StuckOff => Outcome::Refused(6),
         Word::StuckOpen => Outcome::Served,
         Word::StuckClosed => Outcome::Served,
+        Word::Lock => Outcome::Refused(6),
+        Word::Unlock => Outcome::Refused(6),
     }
 }
 
-// Condition 6: the word is none for the part's kind. "word 0 makes a generator fit again" (document 02, Note 3).
+// Condition 6: the word is none for the part's kind. "word 0 makes a generator fit again" (document 02, Note 3); "Word 4 locks it and word 5
+// unlocks it; both are for generators" (Note 7).
 fn check_word(part: Part, word: Word) -> Outcome
     ensures { λ r. ⌜ r ≡ outcomeOf (firstMet (wordConditions part word)) ⌝ }
 {
@@ -36,6 +40,8 @@ fn check_word(part: Part, word: Word) -> Outcome
             Word::StuckOff => Outcome::Served,
             Word::StuckOpen => Outcome::Refused(6),
             Word::StuckClosed => Outcome::Refused(6),
+            Word::Lock => Outcome::Served,
+            Word::Unlock => Outcome::Served,
         },
         Part::GeneratorBreaker(_) => check_breaker_word(word),
         Part::BusBreaker(_) => check_breaker_word(word),

@@ -1,5 +1,5 @@
-// The plant reckoning for a class: reads n, the health of the sixty parts and their commands (1 is on or closed), a byte each,
-// and prints what feeds each bus.
+// The plant reckoning for a class: reads n, the health of the sixty parts, the locks of the generators (1 is locked) and the parts' commands
+// (1 is on or closed), a byte each, and prints what feeds each bus.
 ghost use Prim.Native.Nat.{_≤_};
 use libc::STDERR_FILENO;
 use libc::STDIN_FILENO;
@@ -52,19 +52,19 @@ fn print_answer(n: u8, answer: FeedsAnswer) -> bool {
     }
 }
 
-// "The plant reckoning takes n, the health of all parts and any set of orders."
-fn reckoned(case: &[u8; 121]) -> FeedsAnswer {
+// "The plant reckoning takes n, the health of all parts and any set of orders.", the locks "with the health" (document 02, Note 7).
+fn reckoned(case: &[u8; 141]) -> FeedsAnswer {
     let health = cases::health_at(case, 1);
-    let commands = cases::commands_at(case, 61);
+    let commands = cases::commands_at(case, 81);
     plant::feeds(case[0], health, commands)
 }
 
 fn main() {
-    let mut case = [0u8; 121];
-    if io::read_full(STDIN_FILENO, &mut case) < 121 {
+    let mut case = [0u8; 141];
+    if io::read_full(STDIN_FILENO, &mut case) < 141 {
         io::write_all(
             STDERR_FILENO,
-            b"ringplant: standard input has fewer than 121 bytes\n",
+            b"ringplant: standard input has fewer than 141 bytes\n",
         );
         return;
     }

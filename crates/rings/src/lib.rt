@@ -1,10 +1,11 @@
 // Rings: the blank one, one that is told a report, and the answer that keeps one; and a load without bookings. Parts carry the
 // paper's numbers, from 1; places are indices from 0.
 ghost use mathlib.Core.Path.{_≡_};
+ghost use mathlib.Core.Bool.{false};
 ghost use Rattle.model.specs.Reports.{places, healthOf, healthPlaces, reported, blankRing, told as toldRing};
 ghost use Rattle.model.specs.Answers.{refusedAnswer};
 ghost use Rattle.model.specs.Bookings.{noLoad};
-ghost use Rattle.rings.specs.Words.{withValue};
+ghost use Rattle.rings.specs.Words.{withValue, withHealth, withLock};
 use model::Booking;
 use model::BusChoice;
 use model::Choice;
@@ -16,10 +17,11 @@ use model::Part;
 use model::Report;
 use model::Ring;
 use model::RingAnswer;
+use model::Word;
 
 // The array with a value at a number, from 1; a number of no place changes nothing.
 fn with_value(values: [u8; 20], number: u8, value: u8) -> [u8; 20]
-    ensures { λ r. ⌜ r ≡ places (withValue values number value) ⌝ }
+    ensures { λ r. ⌜ r ≡ places (withValue 0 values number value) ⌝ }
 {
     if number < 1 || 20 < number {
         return values;
@@ -30,13 +32,23 @@ fn with_value(values: [u8; 20], number: u8, value: u8) -> [u8; 20]
     next
 }
 
-// "The last word decides; one that repeats the present health is accepted."
-fn with_word(health: Health, report: Report) -> Health
-    ensures { λ r. ⌜ r ≡ healthPlaces (reported (healthOf health) report) ⌝ }
+// The same for the locks, a generator's at its number.
+fn with_lock_at(locked: [bool; 20], number: u8, lock: bool) -> [bool; 20]
+    ensures { λ r. ⌜ r ≡ places (withValue false locked number lock) ⌝ }
 {
-    let part = report.part;
-    let word = report.word;
-    let value = words::number_of(word);
+    if number < 1 || 20 < number {
+        return locked;
+    }
+    let g = (number - 1) as usize;
+    let mut next = locked;
+    next[g] = lock;
+    next
+}
+
+// A part's health after a word about it; every lock is kept.
+fn with_health(health: Health, part: Part, value: u8) -> Health
+    ensures { λ r. ⌜ r ≡ healthPlaces (withHealth (healthOf health) part value) ⌝ }
+{
     let mut next = health;
     match part {
         Part::Generator(number) => {
@@ -60,7 +72,40 @@ fn with_word(health: Health, report: Report) -> Health
     }
 }
 
-// What a report does to a ring before any command: its word's effect on the health.
+// A generator's lock after a word about it; every health is kept. A breaker has no lock.
+fn with_lock(health: Health, part: Part, lock: bool) -> Health
+    ensures { λ r. ⌜ r ≡ healthPlaces (withLock (healthOf health) part lock) ⌝ }
+{
+    match part {
+        Part::Generator(number) => {
+            let locked = health.locked;
+            let reported = with_lock_at(locked, number, lock);
+            let mut next = health;
+            next.locked = reported;
+            next
+        }
+        Part::GeneratorBreaker(_) => health,
+        Part::BusBreaker(_) => health,
+    }
+}
+
+// "The last word decides; one that repeats the present health is accepted." "Neither lock nor health alters the other: a replaced set that is
+// locked remains locked." (document 02, Note 7): a word stores the one or the other.
+fn with_word(health: Health, report: Report) -> Health
+    ensures { λ r. ⌜ r ≡ healthPlaces (reported (healthOf health) report) ⌝ }
+{
+    let part = report.part;
+    let word = report.word;
+    match word {
+        Word::Lock => with_lock(health, part, true),
+        Word::Unlock => with_lock(health, part, false),
+        Word::Fit | Word::StuckOff | Word::StuckOpen | Word::StuckClosed => {
+            with_health(health, part, words::number_of(word))
+        }
+    }
+}
+
+// What a report does to a ring before any command: its word's effect on the health or the lock.
 pub fn told(ring: Ring, report: Report) -> Ring
     ensures { λ r. ⌜ r ≡ toldRing ring report ⌝ }
 {
@@ -71,7 +116,7 @@ pub fn told(ring: Ring, report: Report) -> Ring
     next
 }
 
-// n buses, "every part fit and ordered off or open".
+// n buses, "every part fit and ordered off or open", and none locked.
 pub fn blank(n: u8) -> Ring
     ensures { λ r. ⌜ r ≡ blankRing n ⌝ }
 {
@@ -81,6 +126,7 @@ pub fn blank(n: u8) -> Ring
             generators: [0u8; 20],
             generator_breakers: [0u8; 20],
             bus_breakers: [0u8; 20],
+            locked: [false; 20],
         },
         commands: Commands {
             generators: [false; 20],

@@ -20,11 +20,11 @@ pub fn number_of(g: usize) -> u8
     g as u8 + 1
 }
 
-// Whether a generator may feed: it is fit, and its breaker is not stuck open.
-pub fn may_feed(generator: u8, breaker: u8) -> bool
-    ensures { λ r. ⌜ r ≡ fit generator && not (stuckOpen breaker) ⌝ }
+// Whether a generator may feed: it is fit, which is "not stuck off and not locked" (document 02, Note 7), and its breaker is not stuck open.
+pub fn may_feed(generator: u8, locked: bool, breaker: u8) -> bool
+    ensures { λ r. ⌜ r ≡ (fit generator && not locked) && not (stuckOpen breaker) ⌝ }
 {
-    if components::fit_generator(generator) {
+    if components::fit_generator(generator, locked) {
         return breaker != STUCK_OPEN;
     }
     false
@@ -35,10 +35,11 @@ pub fn usable_generators(health: Health) -> [bool; 20]
     ensures { λ r. ⌜ r ≡ places (mayFeed (healthOf health)) ⌝ }
 {
     let generators = health.generators;
+    let locked = health.locked;
     let generator_breakers = health.generator_breakers;
     let mut usable = [false; 20];
     for g in 0..20 {
-        usable[g] = may_feed(generators[g], generator_breakers[g]);
+        usable[g] = may_feed(generators[g], locked[g], generator_breakers[g]);
     }
     usable
 }

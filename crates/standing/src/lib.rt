@@ -1,10 +1,10 @@
-// The standing commands of a ring, for refusal 9. Places of arrays are indices from 0.
+// The standing commands of a ring and its locks, for refusal 9. Places of arrays are indices from 0.
 ghost use mathlib.Core.Path.{_≡_};
 ghost use mathlib.Core.Bool.{not, _||_};
 ghost use Prim.Native.Nat.{_≤_};
 ghost use Rattle.model.specs.Plant.{fit};
 ghost use Rattle.model.specs.Reports.{healthOf, commandsOf};
-ghost use Rattle.model.specs.Refusals.{activeAbove};
+ghost use Rattle.model.specs.Refusals.{activeAbove, lockedAbove};
 ghost use Rattle.standing.specs.Standing.{anyDiffer};
 use model::Commands;
 use model::FIT;
@@ -30,6 +30,19 @@ pub fn active_above(n: usize, health: Health, commands: Commands) -> bool
             return true;
         }
         if is_active(health.bus_breakers[i], commands.bus_breakers[i]) {
+            return true;
+        }
+    }
+    false
+}
+
+// 9: "A part above n must be unlocked" (document 02, Note 7)
+pub fn locked_above(n: usize, health: Health) -> bool
+    requires { ⌜ n ≤ 20 ⌝ }
+    ensures { λ r. ⌜ r ≡ lockedAbove n (healthOf health) ⌝ }
+{
+    for g in n..20 {
+        if health.locked[g] {
             return true;
         }
     }

@@ -4,17 +4,17 @@ use model::BookingAnswer;
 use tally::Tally;
 
 // The case's call.
-fn answer_of(case: &[u8; 1317]) -> BookingAnswer {
+fn answer_of(case: &[u8; 1357]) -> BookingAnswer {
     let state = loads::state_at(case, case[0], 1);
-    if case[654] == 1 {
-        return control::cancel(state, loads::number_at(case, 655));
+    if case[674] == 1 {
+        return control::cancel(state, loads::number_at(case, 675));
     }
-    control::book(state, loads::booking_at(case, 655))
+    control::book(state, loads::booking_at(case, 675))
 }
 
 // Whether the whole answer is the simulation's.
-fn agrees(case: &[u8; 1317]) -> bool {
-    answers::same_booking(answer_of(case), case, 662)
+fn agrees(case: &[u8; 1357]) -> bool {
+    answers::same_booking(answer_of(case), case, 682)
 }
 
 fn main() {
@@ -24,8 +24,8 @@ fn main() {
         differ: 0,
     };
     for _ in 0..100000usize {
-        let mut case = [0u8; 1317];
-        if io::read_full(stored, &mut case) < 1317 {
+        let mut case = [0u8; 1357];
+        if io::read_full(stored, &mut case) < 1357 {
             break;
         }
         tally = tally::counted(tally, agrees(&case));

@@ -6,23 +6,23 @@ use model::CutSetsAnswer;
 use tally::Tally;
 
 // The case's call.
-fn answer_of(case: &[u8; 660], buffer: &mut [u8]) -> CutSetsAnswer {
-    cutsets::list(loads::state_at(case, case[0], 1), case[654], buffer)
+fn answer_of(case: &[u8; 680], buffer: &mut [u8]) -> CutSetsAnswer {
+    cutsets::list(loads::state_at(case, case[0], 1), case[674], buffer)
 }
 
 // Whether the whole answer, and the buffer after the call, are the simulation's.
-fn same_answer(case: &[u8; 660], buffer: &mut [u8], expected: &[u8]) -> bool {
+fn same_answer(case: &[u8; 680], buffer: &mut [u8], expected: &[u8]) -> bool {
     let answer = answer_of(case, buffer);
     let outcome = answer.outcome;
-    cases::outcome_number(outcome) == case[657]
-        && answer.count == loads::number_at(case, 658)
+    cases::outcome_number(outcome) == case[677]
+        && answer.count == loads::number_at(case, 678)
         && check::same(buffer, expected)
 }
 
 // Whether a case agrees whose buffer has this room. The bytes that the buffer is to hold follow the case.
 fn compare(
     stored: i32,
-    case: &[u8; 660],
+    case: &[u8; 680],
     room: usize,
     buffer: &mut [u8],
     expected: &mut [u8],
@@ -34,8 +34,8 @@ fn compare(
 }
 
 // Whether a case agrees; none has a longer buffer than 1024.
-fn agrees(stored: i32, case: &[u8; 660]) -> bool {
-    let room = loads::number_at(case, 655) as usize;
+fn agrees(stored: i32, case: &[u8; 680]) -> bool {
+    let room = loads::number_at(case, 675) as usize;
     if 1024 < room {
         return false;
     }
@@ -51,8 +51,8 @@ fn main() {
         differ: 0,
     };
     for _ in 0..100000usize {
-        let mut case = [0u8; 660];
-        if io::read_full(stored, &mut case) < 660 {
+        let mut case = [0u8; 680];
+        if io::read_full(stored, &mut case) < 680 {
             break;
         }
         tally = tally::counted(tally, agrees(stored, &case));

@@ -15,23 +15,23 @@ fn same_feed(bus: BusFeed, kind: u8, first: u8, second: u8) -> bool {
 }
 
 // Whether the buses have the answers of the case, three bytes each.
-fn same_feeds(answer: FeedsAnswer, case: &[u8; 182]) -> bool {
+fn same_feeds(answer: FeedsAnswer, case: &[u8; 202]) -> bool {
     let buses = answer.buses;
     let mut same = true;
     for b in 0..20 {
-        let at = 122 + 3 * b;
+        let at = 142 + 3 * b;
         same &= same_feed(buses[b], case[at], case[at + 1], case[at + 2]);
     }
     same
 }
 
 // Whether the reckoning of the case is the simulation's.
-fn agrees(case: &[u8; 182]) -> bool {
+fn agrees(case: &[u8; 202]) -> bool {
     let health = cases::health_at(case, 1);
-    let commands = cases::commands_at(case, 61);
+    let commands = cases::commands_at(case, 81);
     let answer = plant::feeds(case[0], health, commands);
     let outcome = answer.outcome;
-    cases::outcome_number(outcome) == case[121] && same_feeds(answer, case)
+    cases::outcome_number(outcome) == case[141] && same_feeds(answer, case)
 }
 
 fn main() {
@@ -41,8 +41,8 @@ fn main() {
         differ: 0,
     };
     for _ in 0..100000usize {
-        let mut case = [0u8; 182];
-        if io::read_full(stored, &mut case) < 182 {
+        let mut case = [0u8; 202];
+        if io::read_full(stored, &mut case) < 202 {
             break;
         }
         tally = tally::counted(tally, agrees(&case));

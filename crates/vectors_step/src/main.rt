@@ -6,22 +6,22 @@ use model::StateAnswer;
 use tally::Tally;
 
 // The case's call.
-fn answer_of(case: &[u8; 1354], buffer: &mut [u8]) -> StateAnswer {
+fn answer_of(case: &[u8; 1394], buffer: &mut [u8]) -> StateAnswer {
     if case[1] == 255 {
         return control::start(case[0], buffer);
     }
     let state = loads::state_at(case, case[0], 2);
-    let report = answers::report_at(case, 655);
+    let report = answers::report_at(case, 675);
     control::step(state, report, buffer)
 }
 
 // Whether the whole answer, and the buffer after the call, are the simulation's.
-fn same_answer(case: &[u8; 1354], buffer: &mut [u8], expected: &[u8]) -> bool {
-    answers::same(answer_of(case, buffer), case, 659) && check::same(buffer, expected)
+fn same_answer(case: &[u8; 1394], buffer: &mut [u8], expected: &[u8]) -> bool {
+    answers::same(answer_of(case, buffer), case, 679) && check::same(buffer, expected)
 }
 
 // Whether a case agrees whose buffer has this room. The bytes that the buffer is to hold follow the case.
-fn compare(stored: i32, case: &[u8; 1354], room: u8, buffer: &mut [u8], expected: &mut [u8]) -> bool
+fn compare(stored: i32, case: &[u8; 1394], room: u8, buffer: &mut [u8], expected: &mut [u8]) -> bool
     requires { ⌜ (255 ≤ length (now buffer)) × (255 ≤ length (now expected)) ⌝ }
 {
     let end = room as usize;
@@ -30,10 +30,10 @@ fn compare(stored: i32, case: &[u8; 1354], room: u8, buffer: &mut [u8], expected
 }
 
 // Whether a case agrees. A byte of it is the buffer's length, so that 255 places hold every buffer.
-fn agrees(stored: i32, case: &[u8; 1354]) -> bool {
+fn agrees(stored: i32, case: &[u8; 1394]) -> bool {
     let mut buffer = [170u8; 255];
     let mut expected = [0u8; 255];
-    compare(stored, case, case[658], &mut buffer, &mut expected)
+    compare(stored, case, case[678], &mut buffer, &mut expected)
 }
 
 fn main() {
@@ -43,8 +43,8 @@ fn main() {
         differ: 0,
     };
     for _ in 0..100000usize {
-        let mut case = [0u8; 1354];
-        if io::read_full(stored, &mut case) < 1354 {
+        let mut case = [0u8; 1394];
+        if io::read_full(stored, &mut case) < 1394 {
             break;
         }
         tally = tally::counted(tally, agrees(stored, &case));

@@ -14,14 +14,14 @@ use Rattle.faults.proofs.matters.Tie as tie
 returns : tie.Need-returns
 unfolding healthOf mayFeed
 returns c =
-    let d = c .before .before .before in
+    let d = c .before .before .before .before in
     let a = d .before .args in
     rw (in-first (a .n) (a .p) (d .if1 .taken)) (generator-matters (a .n) (healthOf (a .t2)) (a .p) (c .may-feed .ensures))
 
 returns-2 : tie.Need-returns-2
 unfolding healthOf mayFeed
 returns-2 c =
-    let d = c .before .before .before in
+    let d = c .before .before .before .before in
     let a = d .before .before .args in
     rw (in-second (a .n) (a .p) (d .before .if1 .left) (d .if2 .taken))
     (generator-breaker-matters (a .n) (healthOf (a .t2)) (a .p - a .n) (c .may-feed2 .ensures))
@@ -37,5 +37,5 @@ returns-3 c =
 pub matters-spec : {M : Type 1} → statement M
 matters-spec =
     tie.close
-    (tie.spec (λ c. search needs) (λ c. search needs) (λ c κs. search needs) returns (λ c. search needs) (λ c. search needs)
-    (λ c. search needs) (λ c κs. search needs) returns-2 (λ c. search needs) (λ c. search needs) (λ c. search needs) returns-3)
+    (tie.spec (λ c. search needs) (λ c. search needs) (λ c. search needs) (λ c κs. search needs) returns (λ c. search needs) (λ c. search needs)
+    (λ c. search needs) (λ c. search needs) (λ c κs. search needs) returns-2 (λ c. search needs) (λ c. search needs) (λ c. search needs) returns-3)

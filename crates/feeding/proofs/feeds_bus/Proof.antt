@@ -12,7 +12,7 @@ joined : tie.Need-returns
 unfolding feeds healthOf commandsOf
 joined c =
     let d = c .before .before .before .before .before in
-    let x = d .before .before .before .before .args in
+    let x = d .before .before .before .before .before .args in
     let H = healthOf (x .t2) in
     let C = commandsOf (x .t3) in
     let runs : running H C (x .g) ≡ true = sym (d .before .is-running .ensures) ∙ d .if1 .taken in
@@ -25,7 +25,7 @@ parted : tie.Need-returns-2
 unfolding feeds healthOf commandsOf
 parted c =
     let d = c .before .before .before .before in
-    let x = d .before .before .before .before .args in
+    let x = d .before .before .before .before .before .args in
     let H = healthOf (x .t2) in
     let C = commandsOf (x .t3) in
     let runs : running H C (x .g) ≡ true = sym (d .before .is-running .ensures) ∙ d .if1 .taken in
@@ -37,7 +37,7 @@ parted c =
 still : tie.Need-returns-3
 unfolding feeds healthOf commandsOf
 still c =
-    let x = c .before .before .before .before .args in
+    let x = c .before .before .before .before .before .args in
     let stands : running (healthOf (x .t2)) (commandsOf (x .t3)) (x .g) ≡ false = sym (c .before .is-running .ensures) ∙ c .if1 .left in
     rw (stands, c .if1 .left)
 
@@ -45,6 +45,7 @@ pub feeds-bus-spec : {M : Type 1} → statement M
 feeds-bus-spec =
     tie.close
     (tie.spec
+    (λ c. search needs)
     (λ c. search needs)
     (λ c. search needs)
     (λ c κs. search needs)

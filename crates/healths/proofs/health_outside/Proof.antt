@@ -53,7 +53,9 @@ loop-again c =
 -- every place is passed
 none : tie.Need-returns-4 Inv-loop μ-loop
 none c =
-    sym (none-outside _ (record { generators = search needs; generator-breakers = search needs; bus-breakers = search needs }) _
+    sym (none-outside _
+    (record { generators = search needs; generator-breakers = search needs; bus-breakers = search needs; locked = search needs })
+    _
     (λ p m. c .before .loop .inv .1 p (m .0, omega arith)))
 
 pub health-outside-spec : {M : Type 1} → statement M

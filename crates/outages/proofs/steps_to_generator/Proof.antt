@@ -60,22 +60,22 @@ clear d =
 
 -- whether the generator of the bus reached may feed
 judged : (d : tie.After-may-feed Inv-loop μ-loop) (t : Bool) → d .may-feed .result ≡ t →
-    let q = d .before .before .before .before .before .before .before .before in
+    let q = d .before .before .before .before .before .before .before .before .before in
     let a = q .before .args in
     mayFeed (healthOf (a .t2)) (busBeside (a .n) (a .rising) (q .loop .k)) ≡ t
 unfolding healthOf mayFeed
-judged d t e = rw (d .before .before .before .bus-beside .ensures) at (sym (d .may-feed .ensures) ∙ e)
+judged d t e = rw (d .before .before .before .before .bus-beside .ensures) at (sym (d .may-feed .ensures) ∙ e)
 
 returns-2 : tie.Need-returns-2 Inv-loop μ-loop
 returns-2 c =
-    let d = c .before .before .before .before .before in
+    let d = c .before .before .before .before .before .before in
     let q = d .before .before .before .before in
     walked-met _ _ _ _ (q .before .pre .0) _ _ (q .loop .inv .2) (omega (arith, d .before .before .before .loop-test .taken)) (clear d)
     (judged (c .before) true (c .if2 .taken))
 
 loop-again : tie.Need-loop-again Inv-loop μ-loop
 loop-again c =
-    let m = c .before .before .before .before in
+    let m = c .before .before .before .before .before in
     let d = m .before in
     let q = d .before .before .before .before in
     let room : q .loop .steps + 1 < q .before .args .n = omega (arith, d .before .before .before .loop-test .taken) in (
@@ -103,6 +103,7 @@ steps-to-generator-spec =
     (λ c. search needs)
     in-array
     (λ c. in-array (c .before))
+    (λ c. in-array (c .before .before))
     (λ c κs. search needs)
     returns-2
     (λ c. search needs)

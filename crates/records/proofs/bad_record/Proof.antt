@@ -1,15 +1,15 @@
--- `records::bad_record` meets its contract: the four conditions of refusal 9 on a ring, in turn, then those on its load.
+-- `records::bad_record` meets its contract: the five conditions of refusal 9 on a ring, in turn, then those on its load.
 use mathlib.Core.Path.{_≡_, sym, _∙_}
 use mathlib.Core.Bool.{false}
 use borrow.Author.Needs.{needs}
 use Rattle.model.specs.Plant.{largest, parts}
 use Rattle.model.specs.Choosing.{commands}
 use Rattle.model.specs.Reports.{healthOf, commandsOf, commandPlaces, calledFor}
-use Rattle.model.specs.Refusals.{sizeOutside, healthOutside, activeAbove, unplanned}
+use Rattle.model.specs.Refusals.{sizeOutside, healthOutside, activeAbove, lockedAbove, unplanned}
 use Rattle.model.specs.Laws.Refusals.{size-bounds}
 use Rattle.theory.specs.Proofs.Choosing.{choices-inside}
 use Rattle.components.specs.Tests.{outcomes}
-use Rattle.records.specs.Records.{differ-planned, bad-size, bad-health, bad-above, bad-commands, load-decides}
+use Rattle.records.specs.Records.{differ-planned, bad-size, bad-health, bad-above, bad-lock, bad-commands, load-decides}
 use Rattle.records.proofs.bad_record.Statement.{statement}
 use Rattle.records.proofs.bad_record.Tie as tie
 
@@ -26,19 +26,25 @@ quiet : (d : tie.Else3)
     activeAbove (ring .n) (healthOf (ring .health)) (commandsOf (ring .commands)) ≡ false)
 quiet d = sym (d .before .active-above .ensures) ∙ d .if3 .left
 
--- the commands and the choices planned are those that the health calls for
+unlocked : (d : tie.Else4)
+    → (let ring = d .before .before .before .before .before .before .before .before .before .before .before .args .state .ring in
+    lockedAbove (ring .n) (healthOf (ring .health)) ≡ false)
+unlocked d = sym (d .before .locked-above .ensures) ∙ d .if4 .left
+
+-- the commands and the choices planned are those that the health and the locks call for
 planned-commands : (d : tie.After-plan)
-    → (let ring = d .before .before .before .before .before .before .before .before .before .args .state .ring in
+    → (let ring = d .before .before .before .before .before .before .before .before .before .before .before .before .args .state .ring in
     d .plan .result .commands ≡ commandPlaces (commands (ring .n) (healthOf (ring .health))))
 planned-commands d = cc
 
 planned-choices : (d : tie.After-plan)
-    → d .plan .result .choices ≡ calledFor (d .before .before .before .before .before .before .before .before .before .args .state .ring)
+    → d .plan .result .choices
+    ≡ calledFor (d .before .before .before .before .before .before .before .before .before .before .before .before .args .state .ring)
 planned-choices d = cc
 
 -- the standing commands are compared with those planned
 compared : (d : tie.After-differ)
-    → (let ring = d .before .before .before .before .before .before .before .before .before .before .args .state .ring in
+    → (let ring = d .before .before .before .before .before .before .before .before .before .before .before .before .before .args .state .ring in
     d .differ .result ≡ unplanned (ring .n) (healthOf (ring .health)) (commandsOf (ring .commands)))
 compared d = d .differ .ensures ∙ differ-planned _ _ _ _ (planned-commands (d .before))
 
@@ -56,30 +62,41 @@ returns-3 c =
     let d = c .before .before .before in
     bad-above _ (inside (d .before .before)) (of-kind d) (sym (c .before .active-above .ensures) ∙ c .if3 .taken)
 
-plan-requires : tie.Need-plan-requires
-plan-requires c κs = size-bounds _ (inside (c .before .before .before .before .before))
+locked-above-requires : tie.Need-locked-above-requires
+locked-above-requires c κs = size-bounds _ (inside (c .before .before .before .before .before .before)) .1
 
 returns-4 : tie.Need-returns-4
 returns-4 c =
     let e = c .before .before .before in
     let d = e .before .before .before in
-    bad-commands _ (inside (d .before .before)) (of-kind d) (quiet e) (sym (compared (c .before)) ∙ c .if4 .taken)
+    bad-lock _ (inside (d .before .before)) (of-kind d) (quiet e) (sym (c .before .locked-above .ensures) ∙ c .if4 .taken)
 
--- the choices are those of the ring
-bad-load-requires : tie.Need-bad-load-requires
-bad-load-requires c κs =
-    let d = c .before .before .before .before in
-    let small = size-bounds _ (inside (d .before .before .before .before .before .before)) .1 in
-    (small, rw (planned-choices d) (choices-inside _ _ small))
+plan-requires : tie.Need-plan-requires
+plan-requires c κs = size-bounds _ (inside (c .before .before .before .before .before .before .before .before))
 
 returns-5 : tie.Need-returns-5
 returns-5 c =
     let f = c .before .before .before in
     let e = f .before .before .before in
     let d = e .before .before .before in
-    let p = f .before .before in
-    load-decides _ (inside (d .before .before)) (of-kind d) (quiet e) (sym (compared (f .before)) ∙ f .if4 .left) (p .plan .result .choices)
-    (planned-choices p) _ (search outcomes)
+    bad-commands _ (inside (d .before .before)) (of-kind d) (quiet e) (unlocked f) (sym (compared (c .before)) ∙ c .if5 .taken)
+
+-- the choices are those of the ring
+bad-load-requires : tie.Need-bad-load-requires
+bad-load-requires c κs =
+    let d = c .before .before .before .before in
+    let small = size-bounds _ (inside (d .before .before .before .before .before .before .before .before .before)) .1 in
+    (small, rw (planned-choices d) (choices-inside _ _ small))
+
+returns-6 : tie.Need-returns-6
+returns-6 c =
+    let g = c .before .before .before in
+    let f = g .before .before .before in
+    let e = f .before .before .before in
+    let d = e .before .before .before in
+    let p = g .before .before in
+    load-decides _ (inside (d .before .before)) (of-kind d) (quiet e) (unlocked f) (sym (compared (g .before)) ∙ g .if5 .left)
+    (p .plan .result .choices) (planned-choices p) _ (search outcomes)
 
 pub bad-record-spec : {M : Type 1} → statement M
 bad-record-spec =
@@ -92,8 +109,11 @@ bad-record-spec =
     (λ c. search needs)
     active-above-requires
     returns-3
+    (λ c. search needs)
+    locked-above-requires
+    returns-4
     plan-requires
     (λ c κs. search needs)
-    returns-4
+    returns-5
     bad-load-requires
-    returns-5)
+    returns-6)

@@ -8,7 +8,7 @@ use Rattle.rings.proofs.with_value.Statement.{statement}
 use Rattle.rings.proofs.with_value.Tie as tie
 
 returns : tie.Need-returns
-returns c = no-place _ _ (search needs) _ (⊎-elim (λ w. inl (omega (arith, facts))) (λ w. inr (omega (arith, facts))) (c .if1 .came))
+returns c = no-place _ _ _ (search needs) _ (⊎-elim (λ w. inl (omega (arith, facts))) (λ w. inr (omega (arith, facts))) (c .if1 .came))
 
 cast-i : tie.Need-cast-i
 cast-i c = omega (arith, facts)
@@ -17,7 +17,7 @@ array-write-next : tie.Need-array-write-next
 array-write-next c = omega (arith, facts)
 
 returns-2 : tie.Need-returns-2
-returns-2 c = at-place _ _ (search needs) _ _ (omega (arith, facts))
+returns-2 c = at-place _ _ _ (search needs) _ _ (omega (arith, facts))
 
 pub with-value-spec : {M : Type 1} → statement M
 with-value-spec =

@@ -1,57 +1,38 @@
--- `rings::with_word` meets its contract.
+-- `rings::with_word` meets its contract: a word alters the health or the lock.
+use mathlib.Core.Path.{_≡_, ap}
 use native.Mathlib.Omega.{arith}
 use borrow.Author.Needs.{needs}
-use Rattle.rings.specs.Words.{with-word}
+use denote.Enum.Declared.{tagOf}
+use Rattle.model.proofs.Word.{the-type}
+use Rattle.model.specs.Values.{wordNumber}
+use Rattle.rings.specs.Words.{first-four, lock-told, unlock-told, health-told}
 use Rattle.rings.proofs.with_word.Statement.{statement}
 use Rattle.rings.proofs.with_word.Tie as tie
 
-number-of-requires : tie.Need-number-of-requires
-number-of-requires c κs = search needs
+lock : tie.Need-returns
+lock c = lock-told _ _ (c .before .enum-told .given .1) _ (search needs)
 
-enum-known-part : tie.Need-enum-known-part
-enum-known-part c = search needs
+unlock : tie.Need-returns-2
+unlock c = unlock-told _ _ (c .before .enum-told2 .given .1) _ (search needs)
 
-with-value-requires : tie.Need-with-value-requires
-with-value-requires c κs = search needs
-
-enum-known-part-2 : tie.Need-enum-known-part-2
-enum-known-part-2 c = search needs
-
-with-value-requires-2 : tie.Need-with-value-requires-2
-with-value-requires-2 c κs = search needs
-
-enum-known-part-3 : tie.Need-enum-known-part-3
-enum-known-part-3 c = search needs
-
-with-value-requires-3 : tie.Need-with-value-requires-3
-with-value-requires-3 c κs = search needs
-
-returns : tie.Need-returns
-returns c =
-    let d = c .before .before .before in
-    with-word _ (search needs) _ _ (d .part .given .1) _ _ (c .with-value .ensures) (omega (arith, d .before .before .number-of .ensures))
-
-returns-2 : tie.Need-returns-2
-returns-2 c =
-    let d = c .before .before .before in
-    with-word _ (search needs) _ _ (d .part2 .given .1) _ _ (c .with-value2 .ensures) (omega (arith, d .before .before .number-of .ensures))
-
-returns-3 : tie.Need-returns-3
-returns-3 c =
-    let d = c .before .before .before in
-    with-word _ (search needs) _ _ (d .part3 .given .1) _ _ (c .with-value3 .ensures) (omega (arith, d .before .before .number-of .ensures))
+-- one of the first four words: its number is stored
+health : tie.Need-returns-3
+health c =
+    let d = c .before .before in
+    let few = first-four _ (d .match .keys3) in
+    let number : c .before .number-of .result ≡ wordNumber (d .before .args .report .word) = search needs in
+    health-told _ _ (λ e. omega (arith, few, ap (tagOf the-type) e)) (λ e. omega (arith, few, ap (tagOf the-type) e)) _ number _ (search needs)
 
 pub with-word-spec : {M : Type 1} → statement M
 with-word-spec =
     tie.close
     (tie.spec
-    number-of-requires
-    enum-known-part
-    with-value-requires
-    enum-known-part-2
-    with-value-requires-2
-    enum-known-part-3
-    with-value-requires-3
-    returns
-    returns-2
-    returns-3)
+    (λ c. search needs)
+    (λ c κs. search needs)
+    (λ c. search needs)
+    (λ c κs. search needs)
+    (λ c κs. search needs)
+    (λ c κs. search needs)
+    lock
+    unlock
+    health)

@@ -13,11 +13,11 @@ use Rattle.model.specs.Laws.Parts.{filledTo, filled-none, filled-more, filled-a
 use Rattle.sources.specs.Sources.{mayFeed}
 
 abbrev Inv-loop : tie.InvT-loop
-Inv-loop generators generator-breakers usable₀ g₀ usable g =
-    (usable ≡ filledTo false (λ i. fit (getD generators i 0) && not (stuckOpen (getD generator-breakers i 0))) g) × (g ≤ 20)
+Inv-loop generators locked generator-breakers usable₀ g₀ usable g =
+    (usable ≡ filledTo false (λ i. (fit (getD generators i 0) && not (getD locked i false)) && not (stuckOpen (getD generator-breakers i 0))) g) × (g ≤ 20)
 
 abbrev μ-loop : tie.MeasureT-loop
-μ-loop generators generator-breakers usable₀ g₀ usable g = 20 - g
+μ-loop generators locked generator-breakers usable₀ g₀ usable g = 20 - g
 
 loop-holds : tie.Need-loop-holds Inv-loop μ-loop
 loop-holds c = (filled-none false _, search auto)
@@ -27,6 +27,9 @@ array-read-may-feed c = search auto
 
 array-read-may-feed-2 : tie.Need-array-read-may-feed-2 Inv-loop μ-loop
 array-read-may-feed-2 c = search auto
+
+array-read-may-feed-3 : tie.Need-array-read-may-feed-3 Inv-loop μ-loop
+array-read-may-feed-3 c = search auto
 
 may-feed-requires : tie.Need-may-feed-requires Inv-loop μ-loop
 may-feed-requires c κs = search auto
@@ -56,6 +59,7 @@ usable-generators-spec =
     loop-holds
     array-read-may-feed
     array-read-may-feed-2
+    array-read-may-feed-3
     may-feed-requires
     array-write-usable
     add-g

@@ -1,0 +1,29 @@
+-- `rings::with_lock_at` meets its contract: nothing is stored at a number of no place.
+use mathlib.Core.Logic.{⊎-elim, inl, inr}
+use native.Mathlib.Omega.{arith}
+use borrow.Author.Needs.{needs}
+use Rattle.model.specs.Laws.Tests.{facts}
+use Rattle.rings.specs.Words.{no-place, at-place}
+use Rattle.rings.proofs.with_lock_at.Statement.{statement}
+use Rattle.rings.proofs.with_lock_at.Tie as tie
+
+returns : tie.Need-returns
+returns c = no-place _ _ _ (search needs) _ (⊎-elim (λ w. inl (omega (arith, facts))) (λ w. inr (omega (arith, facts))) (c .if1 .came))
+
+cast-g : tie.Need-cast-g
+cast-g c = omega (arith, facts)
+
+array-write-next : tie.Need-array-write-next
+array-write-next c = omega (arith, facts)
+
+returns-2 : tie.Need-returns-2
+returns-2 c = at-place _ _ _ (search needs) _ _ (omega (arith, facts))
+
+pub with-lock-at-spec : {M : Type 1} → statement M
+with-lock-at-spec =
+    tie.close
+    (tie.spec
+    returns
+    cast-g
+    array-write-next
+    returns-2)
