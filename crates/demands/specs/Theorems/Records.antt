@@ -679,10 +679,11 @@ told-steady state good rs all =
     let small = good-size (state .ring) (right state good) .1 in
     let s = good-steady state good in
     let ready = told-ready state small s rs in
-    let kinds = told-kinds-state state rs (all-kinds small (steady-kinds s) all) in
-    (_,
-    transition-steady (toldState state rs) noHistory small ready (kinds .inside) (kinds .above) (kinds .unlocked)
-    (performed (sheet-order _) (sheet-order _)))
+    let kinds = told-kinds-state state rs (all-kinds small (steady-kinds s) all) in (
+      _,
+      transition-steady (toldState state rs) noHistory small ready (kinds .inside) (kinds .above) (kinds .unlocked)
+          (performed (sheet-order _) (sheet-order _)),
+    )
 
 -- a good record told good reports, and planned
 told-good : (state : RingState) → badRecord state ≡ false → (rs : List Report) → AllGood (state .ring .n) rs
