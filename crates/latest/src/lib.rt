@@ -37,7 +37,7 @@ fn told_all(n: u8, codes: &[u8], words: &[u8]) -> Ring
     ring
 }
 
-// A ring with the commands that its health calls for.
+// A ring with the commands that its health and locks call for.
 fn planned(ring: Ring) -> Ring
     requires { ⌜ (3 ≤ ring .n) × (ring .n ≤ 20) ⌝ }
     ensures { λ r. ⌜ r ≡ withPlan ring ⌝ }

@@ -3,7 +3,7 @@ use mathlib.Core.Path.{_≡_, refl, sym, _∙_, ap}
 use mathlib.Core.Bool.{Bool, true, false, cond}
 use mathlib.Core.Logic.{_⊎_, inl, inr, _≢_}
 use mathlib.Core.List.{List}
-use Prim.Native.Nat.{ℕ, suc, _<_}
+use Prim.Native.Nat.{ℕ, suc, _≤_, _<_}
 use native.Mathlib.Omega.{arith}
 use lib.Dec.{eqb}
 use lib.ListN.{length, getD, set, length-set}
@@ -17,7 +17,7 @@ use Rattle.model.specs.declared.Report.{Report}
 use Rattle.model.specs.declared.Health.{Health}
 use Rattle.model.specs.Values.{number, samePart, wordNumber}
 use Rattle.model.specs.Plant.{PartHealth, largest, generator}
-use Rattle.model.specs.Reports.{places, healthOf, healthPlaces, reported}
+use Rattle.model.specs.Reports.{places, healthOf, healthPlaces, healthBy, lockBy, reported}
 use Rattle.model.specs.Laws.Tests.{dec-eq}
 use Rattle.model.specs.Laws.Parts.{is-places, places-of, health-held, Sized, arrayOf, withArray}
 
@@ -27,13 +27,9 @@ withValue d l k v i = cond (eqb (suc i) k) v (getD l i d)
 
 module _ {A : Type 0} (d : A) (l : List A) (v : A) (full : length l ≡ largest) where
   -- a number of no place changes nothing
-  pub no-place : (k : ℕ) → (k < 1) ⊎ (largest < k) → l ≡ places (withValue d l k v)
+  pub no-place : (k : ℕ) → (0 < k → k ≤ largest → ⊥) → l ≡ places (withValue d l k v)
   unfolding withValue
-  no-place k h = is-places (withValue d l k v) l d full (λ i b. sym (rw (ne-eqb (suc i) k (apart i b h))))
-    where
-      apart : (i : ℕ) → i < largest → (k < 1) ⊎ (largest < k) → suc i ≢ k
-      apart i b (inl p) e = omega arith
-      apart i b (inr p) e = omega arith
+  no-place k h = is-places (withValue d l k v) l d full (λ i b. sym (rw (ne-eqb (suc i) k (λ e. h (omega arith) (omega arith)))))
 
   -- a store at the place of a number
   pub at-place : (k i : ℕ) → suc i ≡ k → set l i v ≡ places (withValue d l k v)
@@ -119,15 +115,17 @@ module _ (H : PartHealth) (r : Report) where
   same-lock g = either (samePart (generator g) (r .part)) (H .locked g)
 
   -- a word about the lock
-  pub lock-told : r .word ≡ Lock → (h : Health) → h ≡ healthPlaces (withLock H (r .part) true) → h ≡ healthPlaces (reported H r)
+  pub lock-told : (w : Word) (v : Bool) → r .word ≡ w → ((x : ℕ) → healthBy w x ≡ x) → ((l : Bool) → lockBy w l ≡ v)
+      → (h : Health)
+      → h ≡ healthPlaces (withLock H (r .part) v)
+      → h ≡ healthPlaces (reported H r)
   unfolding withLock reported
-  lock-told e h f =
-      f ∙ ap healthPlaces (rw e (λ i. record { health = λ p. same-health p i; locked = withLock H (r .part) true .locked }))
-
-  pub unlock-told : r .word ≡ Unlock → (h : Health) → h ≡ healthPlaces (withLock H (r .part) false) → h ≡ healthPlaces (reported H r)
-  unfolding withLock reported
-  unlock-told e h f =
-      f ∙ ap healthPlaces (rw e (λ i. record { health = λ p. same-health p i; locked = withLock H (r .part) false .locked }))
+  lock-told w v e keeps locks h f =
+      f
+      ∙ ap healthPlaces (rw e (λ i. record {
+        health = λ p. (same-health p ∙ ap (λ x. cond (samePart p (r .part)) x (H .health p)) (sym (keeps (H .health p)))) i;
+        locked = λ g. cond (samePart (generator g) (r .part)) (sym (locks (H .locked g)) i) (H .locked g);
+      }))
 
   -- a word about the health: one of the first four
   pub health-told : (r .word ≡ Lock → ⊥) → (r .word ≡ Unlock → ⊥) → (v : ℕ) → v ≡ wordNumber (r .word)

@@ -76,16 +76,16 @@ fn with_health(health: Health, part: Part, value: u8) -> Health
 fn with_lock(health: Health, part: Part, lock: bool) -> Health
     ensures { λ r. ⌜ r ≡ healthPlaces (withLock (healthOf health) part lock) ⌝ }
 {
+    let mut after = health;
     match part {
         Part::Generator(number) => {
-            let locked = health.locked;
+            let locked = after.locked;
             let reported = with_lock_at(locked, number, lock);
-            let mut next = health;
-            next.locked = reported;
-            next
+            after.locked = reported;
+            after
         }
-        Part::GeneratorBreaker(_) => health,
-        Part::BusBreaker(_) => health,
+        Part::GeneratorBreaker(_) => after,
+        Part::BusBreaker(_) => after,
     }
 }
 

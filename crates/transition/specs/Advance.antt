@@ -1,4 +1,4 @@
--- A ring that was told its reports, taken to the commands that its health calls for: served, or refused by 8.
+-- A ring that was told its reports, taken to the commands that its health and locks call for: served, or refused by 8.
 use mathlib.Core.Path.{_≡_, sym, _∙_, ap}
 use mathlib.Core.List.{List}
 use Prim.Native.Nat.{ℕ, _≤_}

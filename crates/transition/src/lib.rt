@@ -14,8 +14,8 @@ use model::Ring;
 use model::RingAnswer;
 use model::Scan;
 
-// A ring that was told its reports, taken to the commands that its health calls for: "gives the new record, each bus's choice and the
-// sheet", or the ring kept where 8 refuses.
+// A ring that was told its reports, taken to the commands that its health and locks call for: "gives the new record, each bus's choice and
+// the sheet", or the ring kept where 8 refuses.
 fn advance(ring: Ring, kept: Ring, buffer: &mut [u8]) -> RingAnswer
     requires { ⌜ (3 ≤ ring .n) × (ring .n ≤ 20) ⌝ }
     ensures answer { λ r. ⌜

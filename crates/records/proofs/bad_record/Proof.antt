@@ -8,7 +8,7 @@ use Rattle.model.specs.Reports.{healthOf, commandsOf, commandPlaces, calledFor}
 use Rattle.model.specs.Refusals.{sizeOutside, healthOutside, activeAbove, lockedAbove, unplanned}
 use Rattle.model.specs.Laws.Refusals.{size-bounds}
 use Rattle.theory.specs.Proofs.Choosing.{choices-inside}
-use Rattle.components.specs.Tests.{outcomes}
+use Rattle.components.specs.Tests.{is-true, is-false, outcomes}
 use Rattle.records.specs.Records.{differ-planned, bad-size, bad-health, bad-above, bad-lock, bad-commands, load-decides}
 use Rattle.records.proofs.bad_record.Statement.{statement}
 use Rattle.records.proofs.bad_record.Tie as tie
@@ -29,7 +29,7 @@ quiet d = sym (d .before .active-above .ensures) ∙ d .if3 .left
 unlocked : (d : tie.Else4)
     → (let ring = d .before .before .before .before .before .before .before .before .before .before .before .args .state .ring in
     lockedAbove (ring .n) (healthOf (ring .health)) ≡ false)
-unlocked d = sym (d .before .locked-above .ensures) ∙ d .if4 .left
+unlocked d = is-false _ (λ e. search outcomes)
 
 -- the commands and the choices planned are those that the health and the locks call for
 planned-commands : (d : tie.After-plan)
@@ -62,14 +62,11 @@ returns-3 c =
     let d = c .before .before .before in
     bad-above _ (inside (d .before .before)) (of-kind d) (sym (c .before .active-above .ensures) ∙ c .if3 .taken)
 
-locked-above-requires : tie.Need-locked-above-requires
-locked-above-requires c κs = size-bounds _ (inside (c .before .before .before .before .before .before)) .1
-
 returns-4 : tie.Need-returns-4
 returns-4 c =
     let e = c .before .before .before in
     let d = e .before .before .before in
-    bad-lock _ (inside (d .before .before)) (of-kind d) (quiet e) (sym (c .before .locked-above .ensures) ∙ c .if4 .taken)
+    bad-lock _ (inside (d .before .before)) (of-kind d) (quiet e) (is-true _ (λ u. search outcomes))
 
 plan-requires : tie.Need-plan-requires
 plan-requires c κs = size-bounds _ (inside (c .before .before .before .before .before .before .before .before))
@@ -110,7 +107,7 @@ bad-record-spec =
     active-above-requires
     returns-3
     (λ c. search needs)
-    locked-above-requires
+    (λ c κs. size-bounds _ (inside (c .before .before .before .before .before .before)) .1)
     returns-4
     plan-requires
     (λ c κs. search needs)

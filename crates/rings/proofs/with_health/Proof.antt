@@ -1,4 +1,4 @@
--- `rings::with_health` meets its contract.
+-- `rings::with_health` meets its contract: a health is stored at its part, and no lock altered.
 use borrow.Author.Needs.{needs}
 use Rattle.rings.specs.Words.{health-stored}
 use Rattle.rings.proofs.with_health.Statement.{statement}

@@ -1,8 +1,6 @@
 -- `rings::with_lock` meets its contract: a lock is stored at a generator alone.
 use mathlib.Core.Logic.{inl, inr}
 use borrow.Author.Needs.{needs}
-use Rattle.model.specs.declared.Health.{Health}
-use Rattle.model.specs.Laws.Parts.{Sized}
 use Rattle.rings.specs.Words.{lock-stored, lock-of-breaker}
 use Rattle.rings.proofs.with_lock.Statement.{statement}
 use Rattle.rings.proofs.with_lock.Tie as tie

@@ -1,5 +1,5 @@
 -- `rings::with_lock_at` meets its contract: nothing is stored at a number of no place.
-use mathlib.Core.Logic.{⊎-elim, inl, inr}
+use mathlib.Core.Logic.{⊎-elim}
 use native.Mathlib.Omega.{arith}
 use borrow.Author.Needs.{needs}
 use Rattle.model.specs.Laws.Tests.{facts}
@@ -8,7 +8,7 @@ use Rattle.rings.proofs.with_lock_at.Statement.{statement}
 use Rattle.rings.proofs.with_lock_at.Tie as tie
 
 returns : tie.Need-returns
-returns c = no-place _ _ _ (search needs) _ (⊎-elim (λ w. inl (omega (arith, facts))) (λ w. inr (omega (arith, facts))) (c .if1 .came))
+returns c = no-place _ _ _ (search needs) _ (λ a b. ⊎-elim (λ w. omega (arith, facts)) (λ w. omega (arith, facts)) (c .if1 .came))
 
 cast-g : tie.Need-cast-g
 cast-g c = omega (arith, facts)

@@ -18,18 +18,9 @@ abbrev μ-loop : tie.MeasureT-loop
 loop-holds : tie.Need-loop-holds Inv-loop μ-loop
 loop-holds c = (search needs, search needs, λ k l m. absurd (omega arith))
 
-element-copy-out-if1 : tie.Need-element-copy-out-if1 Inv-loop μ-loop
-element-copy-out-if1 c = search needs
-
-returns : tie.Need-returns Inv-loop μ-loop
+some : tie.Need-returns Inv-loop μ-loop
 unfolding healthOf
-returns c = sym (some-locked _ _ _ (search needs) (search needs) (c .if1 .taken))
-
-add-g : tie.Need-add-g Inv-loop μ-loop
-add-g c = search needs
-
-loop-less : tie.Need-loop-less Inv-loop μ-loop
-loop-less c = search needs
+some c = sym (some-locked _ _ _ (search needs) (search needs) (c .if1 .taken))
 
 loop-again : tie.Need-loop-again Inv-loop μ-loop
 unfolding healthOf
@@ -37,8 +28,8 @@ loop-again c =
     let l = c .before .before .before in
     (search needs, search needs, unlocked-more _ (healthOf (l .before .args .t2)) _ (l .loop .inv .2) (c .if1 .left))
 
-returns-2 : tie.Need-returns-2 Inv-loop μ-loop
-returns-2 c = sym (none-locked _ _ (λ k m. c .before .loop .inv .2 k (omega arith)))
+none : tie.Need-returns-2 Inv-loop μ-loop
+none c = sym (none-locked _ _ (λ k m. c .before .loop .inv .2 k (omega arith)))
 
 pub locked-above-spec : {M : Type 1} → statement M
 locked-above-spec =
@@ -47,9 +38,9 @@ locked-above-spec =
     Inv-loop
     μ-loop
     loop-holds
-    element-copy-out-if1
-    returns
-    add-g
-    loop-less
+    (λ c. search needs)
+    some
+    (λ c. search needs)
+    (λ c. search needs)
     loop-again
-    returns-2)
+    none)
