@@ -55,7 +55,8 @@ function machine(g) {
   const part = byId("G" + g), words = [...part.querySelectorAll(".tag")].map(t => t.textContent).filter(word => word).join(" ");
   const crossed = part.querySelector(".cross").getAttribute("visibility") == "visible";
   const padlocked = getComputedStyle(part.querySelector(".padlock")).display != "none";
-  return [words, crossed ? "cross" : "", padlocked ? "padlock" : "", part.querySelector(".core").getAttribute("fill") == "none" ? "" : "runs"].join("/");
+  const runs = part.querySelector(".core").getAttribute("fill") != "none";
+  return [words, crossed ? "cross" : "", padlocked ? "padlock" : "", runs ? "runs" : ""].join("/");
 }
 function look() {
   const numbers = Array.from({length: n}, (_, i) => i + 1);

@@ -527,7 +527,8 @@ class Tools(ToolCase):
 
     def test_mistakes(self):
         for name in ("ringctl", "ringcuts", "ringview", "ringscan", "ringload", "ringplant"):
-            self.check(tool(name, data=b"ring 3\nG1 lock\n"), 2, b"", "^%s: line 2: G1 lock: the word is none of: fit, .*, locked, unlocked\n$" % name)
+            self.check(tool(name, data=b"ring 3\nG1 lock\n"), 2, b"",
+                       "^%s: line 2: G1 lock: the word is none of: fit, .*, locked, unlocked\n$" % name)
 
     def test_help(self):
         for name in ("faultfile", "ringscan", "ringload"):
