@@ -1,19 +1,21 @@
 -- Document 02, Note 7. Of every controller that meets demand 3 and every list of calls: no locked generator runs at any interruption, none is
--- ordered on, and each stands ordered off when the orders have ended. Of every plant: neither lock nor health alters the other.
-use mathlib.Core.Path.{_≡_, refl, _∙_}
+-- ordered on, and each stands ordered off when the orders have ended. Neither lock nor health alters the other: of every plant, and so of the
+-- record of every such controller.
+use mathlib.Core.Path.{_≡_, refl, sym, _∙_, ap}
 use mathlib.Core.Bool.{Bool, true, false, _&&_, cond}
 use mathlib.Core.Logic.{_⊎_, inl, inr}
 use mathlib.Core.List.{List, [], _∷_, map, List·Memᴰ·head, List·Memᴰ·tail, List·Memᴰ·append-cases}
 use mathlib.Core.Option.{some}
-use Prim.Native.Nat.{ℕ}
+use Prim.Native.Nat.{ℕ, _<_}
 use Rattle.model.specs.declared.Part.{Part}
 use Rattle.model.specs.declared.Word.{Word}
 use Rattle.model.specs.declared.Report.{Report}
 use Rattle.model.specs.Lists.{_∈_}
 use Rattle.model.specs.Values.{samePart}
-use Rattle.model.specs.Plant.{PartHealth, generator, fit, fitGenerator}
+use Rattle.model.specs.Plant.{PartHealth, generator, fit, fitGenerator, InRing}
 use Rattle.model.specs.Choosing.{plan, commands}
 use Rattle.model.specs.Sheet.{opening, closing}
+use Rattle.model.specs.Reports.{healthOf}
 use Rattle.model.specs.Laws.Tests.{contra, dec}
 use Rattle.model.specs.Laws.Lists.{map-at}
 use Rattle.model.specs.Laws.Parts.{at-index, same-eq}
@@ -31,10 +33,17 @@ use Rattle.demands.specs.Statements.Demand3.{
   decode,
   Call,
   Calls,
+  _then_,
+  whole,
   replyTo,
   words,
   isServed,
   World,
+  switched,
+  Performed,
+  Ended,
+  served,
+  RecordGiven,
   AsChosen,
   Demand3,
 }
@@ -53,7 +62,7 @@ use Rattle.demands.specs.Statements.Locks.{
   Apart,
 }
 use Rattle.demands.specs.Proofs.Standing.{same-phases}
-use Rattle.demands.specs.Theorems.Returns.{ended-planned}
+use Rattle.demands.specs.Theorems.Returns.{judged-after, ended-planned}
 
 -- ---- a locked generator
 
@@ -148,3 +157,32 @@ health-stays (r ∷ rs) P p only =
 
 pub apart : (P : PlantState) → Apart P
 apart P = record { lock-remains = λ rs. lock-stays rs P; health-remains = λ rs. health-stays rs P }
+
+-- .. and so of the record, in every list: a served call leaves what its words are not about as the record had it
+module _ {c : Controller} (meets : Demand3 c) (n : ℕ) (buffer : List ℕ) (begun : isServed (c .start n buffer) ≡ true) {before : Calls} {W : World}
+    (call : Call) {ph : Phases} {Q : PlantState} (h : Ended c n buffer before W) (s : isServed (replyTo c (W .state) call) ≡ true)
+    (d : decode n (replyTo c (W .state) call .buffer) ≡ some ph) (q : Performed ph (afterWords (words call) (W .plant)) Q) where
+  -- what the record gives before the call, and after it
+  first : RecordGiven n W
+  first = meets .holds n buffer begun before .given whole h
+
+  after : RecordGiven n (switched Q (replyTo c (W .state) call .answer) (W .history))
+  after = meets .holds n buffer begun (before then call) .given whole (served call h s d q)
+
+  -- "a replaced set that is locked remains locked"
+  pub record-lock-remains : (g : ℕ) → g < n → Only AboutHealth (generator g) (words call)
+      → healthOf (replyTo c (W .state) call .answer .state .ring .health) .locked g ≡ healthOf (W .state .ring .health) .locked g
+  record-lock-remains g hg only =
+      after .locked g hg
+      ∙ ap (λ (H : PartHealth). H .locked g) (judged-after q)
+      ∙ lock-stays (words call) (W .plant) g only
+      ∙ sym (first .locked g hg)
+
+  -- a locked set that fails and is unlocked stays off
+  pub record-health-remains : (p : Part) → InRing n p → Only AboutLock p (words call)
+      → healthOf (replyTo c (W .state) call .answer .state .ring .health) .health p ≡ healthOf (W .state .ring .health) .health p
+  record-health-remains p i only =
+      after .health p i
+      ∙ ap (λ (H : PartHealth). H .health p) (judged-after q)
+      ∙ health-stays (words call) (W .plant) p only
+      ∙ sym (first .health p i)
