@@ -9,10 +9,11 @@ use mathlib.Core.Option.{some}
 use Prim.Native.Nat.{ℕ, _<_}
 use Rattle.model.specs.declared.Part.{Part}
 use Rattle.model.specs.declared.Word.{Word}
+use Rattle.model.specs.declared.Word.the-variants.{Fit, StuckOff, StuckOpen, StuckClosed, Lock, Unlock}
 use Rattle.model.specs.declared.Report.{Report}
 use Rattle.model.specs.Lists.{_∈_}
 use Rattle.model.specs.Values.{samePart}
-use Rattle.model.specs.Plant.{PartHealth, generator, fit, fitGenerator, InRing}
+use Rattle.model.specs.Plant.{PartHealth, generator, fit, fitGenerator, feeds, InRing}
 use Rattle.model.specs.Choosing.{plan, commands}
 use Rattle.model.specs.Sheet.{opening, closing}
 use Rattle.model.specs.Reports.{healthOf}
@@ -42,6 +43,7 @@ use Rattle.demands.specs.Statements.Demand3.{
   switched,
   Performed,
   Ended,
+  Interrupted,
   served,
   RecordGiven,
   AsChosen,
@@ -118,7 +120,23 @@ never-starts {c} meets n buffer begun calls = record {
         let same : a .phases ≡ ph = same-phases (a .decodes) d in
         none-ordered n (afterWords (words call) (W .plant)) ph (rw same at (a .first-is)) (rw same at (a .second-is))
 
+-- so it feeds no bus: wherever anyone halts the orders, at an excepted moment too
+pub locked-feeds-none : {c : Controller} → Demand3 c → (n : ℕ) (buffer : List ℕ) → isServed (c .start n buffer) ≡ true → (calls : Calls)
+    → {P : PlantState} {e : Bool} → Interrupted c n buffer calls P e → (b g : ℕ) → P .health .locked g ≡ true
+    → feeds n (P .health) (P .last) b g ≡ false
+unfolding feeds
+locked-feeds-none meets n buffer begun calls i b g e = rw (never-starts meets n buffer begun calls .not-running i g e)
+
 -- ---- neither lock nor health alters the other
+
+-- every word is about the one or about the other
+pub about-one : (w : Word) → AboutHealth w ⊎ AboutLock w
+about-one Fit = inl word-fit
+about-one StuckOff = inl stuck-off
+about-one StuckOpen = inl stuck-open
+about-one StuckClosed = inl stuck-closed
+about-one Lock = inr lock
+about-one Unlock = inr unlock
 
 health-word : {w : Word} → AboutHealth w → (l : Bool) → lockEffect w l ≡ l
 health-word word-fit l = refl
@@ -175,7 +193,7 @@ module _ {c : Controller} (meets : Demand3 c) (n : ℕ) (buffer : List ℕ) (beg
   record-lock-remains g hg only =
       after .locked g hg
       ∙ ap (λ (H : PartHealth). H .locked g) (judged-after q)
-      ∙ lock-stays (words call) (W .plant) g only
+      ∙ apart (W .plant) .lock-remains (words call) g only
       ∙ sym (first .locked g hg)
 
   -- a locked set that fails and is unlocked stays off
@@ -184,5 +202,5 @@ module _ {c : Controller} (meets : Demand3 c) (n : ℕ) (buffer : List ℕ) (beg
   record-health-remains p i only =
       after .health p i
       ∙ ap (λ (H : PartHealth). H .health p) (judged-after q)
-      ∙ health-stays (words call) (W .plant) p only
+      ∙ apart (W .plant) .health-remains (words call) p only
       ∙ sym (first .health p i)
