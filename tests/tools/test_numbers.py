@@ -7,6 +7,7 @@ import unittest
 from support import path, read
 
 STATEMENT = read("crates", "theory", "specs", "Statements", "Numbers.antt").decode()
+THEOREMS = read("crates", "theory", "specs", "Theorems", "Numbers.antt").decode()
 NAME = re.compile(r"\w+::\w+")
 HANDED = {"rings::refused", "reckoning::with_load"}     # these answer the number that they are handed
 
@@ -47,7 +48,7 @@ class Named(unittest.TestCase):
 
     def test_the_answers_that_hold_refusals(self):
         self.assertLessEqual({"Outcome", "RingAnswer", "StateAnswer", "BookingAnswer", "FileAnswer", "CutSetsAnswer", "PartAnswer", "WordAnswer",
-                              "LatestAnswer"}, answer_types())
+                              "LatestAnswer", "ExposureAnswer"}, answer_types())
 
     def test_every_call_that_finds_a_refusal_has_its_field(self):
         """It is named above a field of its name, of an inner call with `inner-` before it, which speaks of the definition that its contract
@@ -63,16 +64,25 @@ class Named(unittest.TestCase):
             for definition in promised:
                 self.assertRegex(fields[0], r"\b%s\b" % definition, call)
             seen.append(call)
-        self.assertGreaterEqual(len(seen), 18)
+        self.assertGreaterEqual(len(seen), 19)
 
     def test_every_name_is_a_call(self):
         self.assertEqual(set(NAME.findall(STATEMENT)) - {call for call, _, _ in calls()}, set())
 
     def test_every_field_is_tested(self):
         """`never-seven` has every field, and for every field another number is shown to be given."""
-        theorems = read("crates", "theory", "specs", "Theorems", "Numbers.antt").decode()
-        self.assertIn("\npub never-seven : NeverGiven 7\n", theorems)
-        self.assertEqual(set(re.findall(r"λ never\. never \.([\w-]+)", theorems)), {name for _, fields in groups() for name in fields})
+        self.assertIn("\npub never-seven : NeverGiven 7\n", THEOREMS)
+        self.assertEqual(set(re.findall(r"λ never\. never \.([\w-]+)", THEOREMS)), {name for _, fields in groups() for name in fields})
+
+    def test_every_number_of_a_condition_is_given(self):
+        """`others-given` has each number that a condition of the definitions has, once: the paper's table but 7."""
+        claimed = re.search(r"^pub others-given : (.*?)^unfolding", THEOREMS, re.S | re.M).group(1)
+        numbers = [int(number) for number in re.findall(r"NeverGiven (\d+)", claimed)]
+        definitions = "".join(read("crates", "model", "specs", name).decode() for name in os.listdir(path("crates", "model", "specs"))
+                              if name.endswith(".antt"))
+        conditions = {int(number) for number in re.findall(r"\((\d+), [a-z]\w*", definitions)} - {0}
+        self.assertEqual(numbers, sorted(conditions))
+        self.assertEqual(numbers, [number for number in range(1, 17) if number != 7])
 
 
 if __name__ == "__main__":

@@ -14,6 +14,7 @@ pub mod Bookings
 pub mod States
 pub mod CutSets
 pub mod CutText
+pub mod Exposure
 pub mod Scans
 pub mod ScanText
 pub mod LoadText

@@ -152,6 +152,39 @@ pub struct CutSetsAnswer {
     pub count: u16,
 }
 
+// "Each part has a rate as its data sheet gives it: a chance per hour, a mean number of hours between failures, or unrated." (document 02,
+// Note 8). Any float can be handed in, so that one outside the bounds is refused.
+pub enum Rate {
+    Chance(f64),
+    MeanHours(f64),
+    Unrated,
+}
+
+// The rate of one part.
+pub struct PartRate {
+    pub rate: Rate,
+}
+
+// The rate of every part.
+pub struct Rates {
+    pub generators: [PartRate; 20],
+    pub generator_breakers: [PartRate; 20],
+    pub bus_breakers: [PartRate; 20],
+}
+
+// "The answer carries that sum, the largest product and the number of sets." (document 02, Note 8)
+pub struct Exposure {
+    pub sum: f64,
+    pub largest: f64,
+    pub count: u16,
+}
+
+// What the call for a bus's chance of a dark hour answers.
+pub struct ExposureAnswer {
+    pub outcome: Outcome,
+    pub exposure: Exposure,
+}
+
 // What the call for the ring after a fault file's last report answers.
 pub struct LatestAnswer {
     pub outcome: Outcome,

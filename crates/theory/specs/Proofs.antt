@@ -3,3 +3,4 @@ pub mod Geometry
 pub mod Paths
 pub mod Choosing
 pub mod Subsets
+pub mod Floats

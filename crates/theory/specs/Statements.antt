@@ -1,7 +1,9 @@
--- What is claimed of the definitions: what a bus tries, the settled positions, the minimal cut sets, and the number that is never given.
--- Nothing is proved here.
+-- What is claimed of the definitions: what a bus tries, the settled positions, the minimal cut sets, the figures of its chance of a dark
+-- hour, and the number that is never given. Nothing is proved here.
 pub mod Priorities
 pub mod Settled
 pub mod Outward
 pub mod CutSets
+pub mod Exposure
+pub mod Recipe
 pub mod Numbers

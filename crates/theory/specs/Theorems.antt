@@ -10,4 +10,6 @@ pub mod Priorities
 pub mod Settled
 pub mod Outward
 pub mod CutSets
+pub mod Exposure
+pub mod Recipe
 pub mod Numbers

@@ -12,6 +12,7 @@ use Rattle.model.specs.declared.Commands.{Commands}
 use Rattle.model.specs.declared.Ring.{Ring}
 use Rattle.model.specs.declared.RingState.{RingState}
 use Rattle.model.specs.declared.Booking.{Booking}
+use Rattle.model.specs.declared.Rates.{Rates}
 use Rattle.model.specs.Values.{outcomeNumber, outcomeOf, partValues, wordValues, reportValues, fileValues}
 use Rattle.model.specs.Reports.{partNamed, wordNamed}
 use Rattle.model.specs.Refusals.{firstMet, reportConditions, sheetRefusal, fileRefusal}
@@ -19,6 +20,7 @@ use Rattle.model.specs.Answers.{partAnswer, wordAnswer, reportAt, fileAnswer, f
 use Rattle.model.specs.Scans.{firstRefusal, scanReply}
 use Rattle.model.specs.States.{stateStart, stateStep, stateScan, bookAnswer, cancelAnswer}
 use Rattle.model.specs.CutSets.{cutSetsReply}
+use Rattle.model.specs.Exposure.{exposureAnswer}
 use Rattle.model.specs.Text.{refusedText, printedRun}
 use Rattle.model.specs.CutText.{printedCutSets}
 use Rattle.model.specs.ScanText.{scanText}
@@ -51,6 +53,8 @@ pub record NeverGiven (k : ℕ) : Type 0 where
   pub write : (bytes buffer : List ℕ) → outcomeNumber (outcomeOf (sheetRefusal (length buffer) bytes)) ≢ k
   -- cutsets::list
   pub list : (state : RingState) (bus : ℕ) (buffer : List ℕ) → outcomeNumber (cutSetsReply state bus buffer .answer .outcome) ≢ k
+  -- exposure::of_bus
+  pub of-bus : (state : RingState) (bus : ℕ) (r : Rates) → outcomeNumber (exposureAnswer state bus r .outcome) ≢ k
   -- run::fill and cursor::next_line, piece by piece, and ringctl; ringcuts; calls::scan_text and ringscan
   pub printed-run : (file : List ℕ) → printedRun file ≢ refusedText k
   pub printed-cut-sets : (file : List ℕ) → printedCutSets file ≢ refusedText k

@@ -8,7 +8,9 @@ use Prim.Native.Char.{code}
 use Prim.Native.Nat.{ℕ, zero, suc, _+_, _≤_, _<_, _/_, _%_}
 use native.Mathlib.Omega.{arith}
 use lib.Dec.{eqb, ltb}
+use lib.IntN.{pos}
 use lib.ListN.{length, getD, drop, length-append}
+use lib.Ieee.{fin, lt, eq, le}
 use borrow.Author.Tests.{ltb-true, ltb-false, eq-eqb}
 use Rattle.model.specs.declared.Part.{Part}
 use Rattle.model.specs.declared.Part.the-variants.{Generator}
@@ -22,6 +24,8 @@ use Rattle.model.specs.declared.RingState.{RingState}
 use Rattle.model.specs.declared.Scan.{Scan}
 use Rattle.model.specs.declared.Booking.{Booking}
 use Rattle.model.specs.declared.Load.{Load}
+use Rattle.model.specs.declared.Rate.the-variants.{Chance, Unrated}
+use Rattle.model.specs.declared.Rates.{Rates}
 use Rattle.model.specs.declared.BookingAnswer.{BookingAnswer}
 use Rattle.model.specs.declared.ReportAnswer.the-variants.{Missing}
 use Rattle.model.specs.declared.FileAnswer.the-variants.{Served}
@@ -43,6 +47,7 @@ use Rattle.model.specs.Reports.{
   commandPlaces,
   places,
   blankRing,
+  reported,
   told,
   planned,
   withPlan,
@@ -123,7 +128,33 @@ use Rattle.model.specs.States.{
   bookAnswer,
   cancelAnswer,
 }
-use Rattle.model.specs.CutSets.{ringCutSets, CutSetsReply, cutSetsRefusal, refusedCutSets, servedCutSets, cutSetsReply}
+use Rattle.model.specs.CutSets.{
+  canFail,
+  furtherFaults,
+  withFaults,
+  darkens,
+  subsets,
+  properSubsets,
+  minimal,
+  ofSize,
+  sizesBelow,
+  cutSets,
+  ringCutSets,
+  CutSetsReply,
+  cutSetsRefusal,
+  refusedCutSets,
+  servedCutSets,
+  cutSetsReply,
+}
+use Rattle.model.specs.Exposure.{
+  rateOf,
+  rateOutside,
+  someOutside,
+  isUnrated,
+  unratedListed,
+  exposureRefusal,
+  exposureAnswer,
+}
 use Rattle.model.specs.Text.{
   ascii,
   digits,
@@ -142,7 +173,9 @@ use Rattle.model.specs.CutText.{countLine, cutText, latestRing, printedCutSets}
 use Rattle.model.specs.ScanText.{sheetRoom, scanText}
 use Rattle.model.specs.Laws.Tests.{contra, dec, by-cond}
 use Rattle.model.specs.Laws.Refusals.{outcome-number}
+use Rattle.theory.specs.Statements.Recipe.{byKind}
 use Rattle.theory.specs.Statements.Numbers.{NeverGiven}
+use Rattle.theory.specs.Theorems.Exposure.{rated}
 
 -- ---- of conditions
 
@@ -221,6 +254,13 @@ list-never : (state : RingState) (bus room : ℕ) → cutSetsRefusal state bus r
 unfolding cutSetsRefusal firstMet
 list-never state bus room =
     more (badRecord state) 9 _ refl (more (busOutside (state .ring .n) bus) 10 _ refl (more (tooShort room _) 8 _ refl served))
+
+exposure-never : (state : RingState) (bus : ℕ) (r : Rates) → exposureRefusal state bus r ≢ 7
+unfolding exposureRefusal firstMet
+exposure-never state bus r =
+    more (badRecord state) 9 _ refl
+    (more (busOutside (state .ring .n) bus) 10 _ refl
+    (more (someOutside (state .ring .n) r) 15 _ refl (more (unratedListed r _) 16 _ refl served)))
 
 -- 9 of a ring state, then what else is refused
 state-never : (state : RingState) (k : ℕ) → k ≢ 7 → stateRefusal state k ≢ 7
@@ -377,7 +417,7 @@ scan-text-never i ring s =
 -- ---- "refusal 7 is given to no input any more"
 
 pub never-seven : NeverGiven 7
-unfolding stateStart stateStep stateScan bookAnswer cancelAnswer startReply stepReply scanReply
+unfolding stateStart stateStep stateScan bookAnswer cancelAnswer startReply stepReply scanReply exposureAnswer
 never-seven = record {
   check-file = file-answer-never;
   ring-after = λ file. outcome-never (fileRefusal file) (file-never file);
@@ -399,6 +439,7 @@ never-seven = record {
   check = λ n rs. outcome-never _ (first-never n rs);
   write = λ bytes buffer. outcome-never _ (sheet-never (length buffer) bytes);
   list = list-answer-never;
+  of-bus = λ state bus r. outcome-never _ (exposure-never state bus r);
   printed-run = run-never;
   printed-cut-sets = cuts-never;
   scan-text = scan-text-never;
@@ -433,10 +474,10 @@ abbrev no-word : Report
 no-word = record { part = Generator 1; word = StuckOpen }
 
 -- every other number of the table is given: document 01's examples, and of document 02 bus 0, a count of 65, a booking without watts, a
--- cancellation of what is not live, and a 65th booking
+-- cancellation of what is not live, a 65th booking, a chance of 2.0, and unrated parts
 pub others-given : (NeverGiven 1 → ⊥) × (NeverGiven 2 → ⊥) × (NeverGiven 3 → ⊥) × (NeverGiven 4 → ⊥) × (NeverGiven 5 → ⊥)
     × (NeverGiven 6 → ⊥) × (NeverGiven 8 → ⊥) × (NeverGiven 9 → ⊥) × (NeverGiven 10 → ⊥) × (NeverGiven 11 → ⊥) × (NeverGiven 12 → ⊥)
-    × (NeverGiven 13 → ⊥) × (NeverGiven 14 → ⊥)
+    × (NeverGiven 13 → ⊥) × (NeverGiven 14 → ⊥) × (NeverGiven 15 → ⊥) × (NeverGiven 16 → ⊥)
 unfolding fileAnswer fileRefusal firstMet sizeOutside reportsRefusal reportRefusal reportAnswer reportOf reportConditions notOfRing wordOfOtherKind
     partNamed partCode parts below first wordNamed outcomeOf sheetRefusal tooShort cutSetsReply cutSetsRefusal badRing anyOf blankRing
     refusedCutSets started withPlan planned commands onPaths chosen addPath choose permitted isolated countedClosed usable paths pathsFrom
@@ -444,6 +485,8 @@ unfolding fileAnswer fileRefusal firstMet sizeOutside reportsRefusal reportRefus
     commandsOf healthPlaces commandPlaces healthOutside healthOfKind activeAbove lockedAbove unplanned busOutside scanRefusal countAbove full
     unloaded noLoad reckoned withFigures wattsOf totalWatts stateRefusal badRecord badLoad liveTwice isLive bookingOutside wattsOutside
     otherFigures noPlace stateScan refusedState bookAnswer bookRefusal cancelAnswer cancelRefusal choices choiceOf plan
+    exposureAnswer exposureRefusal someOutside rateOf byKind rateOutside lt eq le unratedListed isUnrated
+    ringCutSets cutSets minimal darkens withFaults reported furtherFaults canFail subsets properSubsets ofSize sizesBelow
 others-given = (
   λ never. never .check-file (3 ∷ 0 ∷ []) refl,
   λ never. never .check-file (2 ∷ 0 ∷ 0 ∷ []) refl,
@@ -458,6 +501,8 @@ others-given = (
   λ never. never .book started (record { number = 0; bus = 1; watts = 0 }) refl,
   λ never. never .cancel started 0 refl,
   λ never. never .book full (booking 64) refl,
+  λ never. never .of-bus started 1 (rated (Chance (fin false 1 (pos 1)))) refl,
+  λ never. never .of-bus started 1 (rated Unrated) refl,
 )
 
 -- every other call and text gives one of them
