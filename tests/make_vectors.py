@@ -18,6 +18,9 @@ step    starts and steps with damaged records and short buffers: the record, beh
 cuts    minimal cut sets, with damaged records, buses outside the ring and short buffers: the record, the bus, 2 bytes length of the
         buffer, low byte first, at most 1024; then the number of the outcome, 2 bytes count, low byte first, and the buffer, which held
         170 in every byte.
+exposure  chances of a dark hour, with damaged records, buses outside the ring and rates that are turned away: the record, the bus, and
+        60 rates of nine bytes each, the number of its kind, 0 a chance, 1 mean hours and any other unrated, and the bits of its figure;
+        then the number of the outcome, 2 bytes count, and the bits of the sum and of the largest, 8 bytes each, low byte first.
 scans   scans with any counts, bad reports at any place, damaged records and short buffers: the record, the count, 64 places of three
         bytes each, a report's kind, number and word, and the buffer's length; then as in step the number of the outcome, the record, the
         choices and the buffer, which held 170 in every byte.
@@ -32,10 +35,13 @@ import dataclasses
 import functools
 import inspect
 import itertools
+import math
 import os
 import random
+import struct
 import sys
 import types
+from unittest import mock
 
 HERE = os.path.dirname(os.path.abspath(__file__))
 sys.path.insert(0, os.path.join(HERE, "simulation"))
@@ -540,15 +546,26 @@ def dark_by_near_ways(n, bus, health, locks, rules):
     return not any(rs.way_could_carry(way, health, locks, rules) for way in near_ways(n, bus, rules))
 
 
+@functools.lru_cache(maxsize=None)
+def sets_found(n, bus, health, locks):
+    return sim.darkening_sets(n, bus, dict(health), dict(locks), is_dark=dark_by_near_ways)
+
+
 def cut_sets(record, bus):
-    """The minimal cut sets of a bus, as lists of codes."""
-    return sim.darkening_sets(record.n, bus, record.health, record.locks, is_dark=dark_by_near_ways)
+    """The minimal cut sets of a bus, as lists of codes. The simulation searches them once for a health and its locks."""
+    return sets_found(record.n, bus, tuple(record.health.items()), tuple(record.locks.items()))
+
+
+def over_cut_sets(call, record, bus, given):
+    """What a call of the simulation answers that takes the minimal cut sets of a bus, if it does not refuse them."""
+    with mock.patch.object(rs, "darkening_sets", lambda *asked, **named: cut_sets(record, bus)):
+        return call(record, bus, given)
 
 
 def cut_case(record, bus, room, behind=BLANKS):
     """A case of the minimal cut sets."""
     buffer = bytearray([170] * room)
-    number, count = sim.darkening(record, bus, buffer, is_dark=dark_by_near_ways)
+    number, count = over_cut_sets(sim.darkening, record, bus, buffer)
     before = record_bytes(record, behind) + bytes([bus]) + low_first(room, 2)
     return before + bytes([number]) + low_first(count, 2) + bytes(buffer)
 
@@ -733,6 +750,171 @@ def worn_cuts(rng):
 
 def cuts(rng):
     return itertools.chain(settled_cuts(), locked_cuts(), refused_cuts(), worn_cuts(rng))
+
+
+# ---- chances of a dark hour
+
+LEAST, MOST = 5e-324, sys.float_info.max                        # the least float above 0.0, and the largest that is finite
+BELOW_1, ABOVE_1 = math.nextafter(1.0, 0.0), math.nextafter(1.0, 2.0)
+
+
+def float_of(bits):
+    return struct.unpack("<d", low_first(bits, 8))[0]
+
+
+# NaNs of either sign: the usual ones, and those with the least bits and with the greatest.
+NANS = [float_of((sign << 63) + bits) for sign in (0, 1) for bits in (0x7ff8 << 48, (0x7ff0 << 48) + 1, 2 ** 63 - 1)]
+
+
+def rate_bytes(code, rate):
+    """The nine bytes of a part's rate. An unrated part has any number above 1 for a kind, and figures that would be refused."""
+    if rate == rs.UNRATED:
+        return bytes([2 + 83 * code % 254]) + struct.pack("<d", -1.0 - code)
+    return bytes([("chance", "hours").index(rate[0])]) + struct.pack("<d", rate[1])
+
+
+def exposure_case(record, bus, rates, behind=BLANKS):
+    """A case of the chance of a dark hour."""
+    answer = over_cut_sets(sim.chance_of_dark_hour, record, bus, rates)
+    before = record_bytes(record, behind) + bytes([bus]) + b"".join(rate_bytes(code, rates[code]) for code in rs.ALL_CODES)
+    return before + bytes([answer.refusal]) + low_first(answer.count, 2) + struct.pack("<dd", answer.sum, answer.largest)
+
+
+def rates_by(rate_of):
+    return {code: rate_of(code) for code in rs.ALL_CODES}
+
+
+def all_rated(rate):
+    return rates_by(lambda code: rate)
+
+
+def with_rate(rates, codes, rate):
+    """Rates with another one for these parts."""
+    return {**rates, **{code: rate for code in codes}}
+
+
+# "Document 004's example rates, 1e-7 for a generator and 1e-8 for a breaker, are run as cases."
+EXAMPLE = rates_by(lambda code: rs.chance_rate(1e-7 if code in rs.GENERATOR_CODES else 1e-8))
+
+
+def started_exposures():
+    """Document 004's rates for every bus of every started ring."""
+    for n in range(3, 21):
+        record = sim.record_for(n)
+        yield from (exposure_case(record, bus, EXAMPLE) for bus in range(1, n + 1))
+
+
+# Buses of rings with few faults: dark ones, and with sets of one part, of two and of three.
+FEW = ((3, 3, []), (3, 1, [("G", 3, 1)]), (3, 3, cut_off(3, 3)), (3, 3, [("BB", 2, 3), ("G", 3, 1), ("BB", 3, 2)]),
+       (4, 4, [("G", 4, 4), ("BB", 1, 3)]), (5, 2, []), (5, 4, [("G", k, 4) for k in range(1, 6)]), (6, 5, [("G", 5, 4), ("G", 6, 1)]))
+# One with 264 sets.
+MANY = (20, 11, [("BB", 20, 2)] + [("G", g, 1) for g in range(1, 21) if g not in (1, 11, 20)])
+
+
+def told_buses(calls):
+    yield from ((told(n, reports), bus) for n, bus, reports in calls)
+
+
+def listed_parts(record, bus):
+    """The codes of the parts in any of a bus's sets, and of those of the ring that are in none."""
+    listed = sorted(set(itertools.chain(*cut_sets(record, bus))))
+    return listed, [code for code in rs.codes_of_ring(record.n) if code not in listed]
+
+
+def edge_exposures():
+    """Every part with the same rate, at the bounds and beside them: products that vanish, that are left with few digits, and 1.0; either zero,
+    alone and beside the other. Then one part of a listed set with such a rate, and the others with document 004's."""
+    chances = (0.0, -0.0, LEAST, 2.0 ** -1022, 1e-200, 1e-162, 1e-108, 2.0 ** -358, .1, .5, BELOW_1, 1.0)
+    hours = (1.0, ABOVE_1, 2.0, 3.0, 7.0, 49.0, 1e8, 2.0 ** 1022, 2.0 ** 1023, MOST)
+    alike = [all_rated(rate) for rate in (*map(rs.chance_rate, chances), *map(rs.mean_hours_rate, hours))]
+    zeros = [rates_by(lambda code, k=k: rs.chance_rate((-0.0, 0.0)[(code + k) % 2])) for k in (0, 1)]
+    for record, bus in told_buses((*FEW, MANY)):
+        yield from (exposure_case(record, bus, rates) for rates in alike + zeros)
+        for code, chance in itertools.product(listed_parts(record, bus)[0][:2], (0.0, -0.0, LEAST, 1.0)):
+            yield exposure_case(record, bus, with_rate(EXAMPLE, [code], rs.chance_rate(chance)))
+
+
+def any_digits(rng, low, high):
+    """A float with any digits, between two to these powers."""
+    return math.ldexp(1 + rng.random(), rng.randint(low, high - 1))
+
+
+def any_rate(rng, low, high, kind):
+    """A rate whose chance is about between two to these powers, which are not above 0."""
+    return rs.mean_hours_rate(any_digits(rng, -high, -low)) if kind == "hours" else rs.chance_rate(any_digits(rng, low, high))
+
+
+def digit_exposures(rng):
+    """Rates with any digits, so that another order of factors or of products shows, or a rounding more or less: as data sheets have them,
+    near to 1.0, far apart, and with products that are left with few digits."""
+    for record, bus in told_buses((*FEW, MANY)):
+        for (low, high), kinds in itertools.product(((-27, -23), (-2, 0), (-90, 0), (-362, -340)), (["chance"], ["hours"], ["chance", "hours"])):
+            yield exposure_case(record, bus, rates_by(lambda code: any_rate(rng, low, high, rng.choice(kinds))))
+
+
+def unrated_exposures():
+    """16: each part of a ring alone unrated, in a listed set or in none; then all that are in none, and those above n, and all parts."""
+    for record, bus in told_buses(FEW):
+        ring = rs.codes_of_ring(record.n)
+        above = [code for code in rs.ALL_CODES if code not in ring]
+        yield from (exposure_case(record, bus, with_rate(EXAMPLE, [code], rs.UNRATED)) for code in ring)
+        for codes in (listed_parts(record, bus)[1], above, listed_parts(record, bus)[1] + above, rs.ALL_CODES):
+            yield exposure_case(record, bus, with_rate(EXAMPLE, codes, rs.UNRATED))
+
+
+# 15: "a chance not from 0 to 1, or hours not finite or below 1".
+OUTSIDE = [rs.chance_rate(x) for x in (-LEAST, -1e-300, -1.0, ABOVE_1, 2.0, MOST, math.inf, -math.inf, *NANS)] + [
+    rs.mean_hours_rate(x) for x in (BELOW_1, .5, LEAST, 0.0, -0.0, -LEAST, -5.0, -MOST, math.inf, -math.inf, *NANS)]
+
+
+def outside_exposures():
+    """15, "among the ring's parts": each such rate of a part in a listed set, in none, and above n, where it is served; and before 16, beside an
+    unrated part in a listed set. Then at the first and the last number of each kind, and behind it."""
+    calls = itertools.cycle([(told(n, reports), bus) for n, bus, reports in ((5, 2, []), (6, 5, [("G", 5, 4)]), (3, 1, [("G", 3, 1)]))])
+    for rate, (record, bus) in zip(OUTSIDE, calls):
+        listed, others = listed_parts(record, bus)
+        above = [code for code in rs.ALL_CODES if code not in listed + others]
+        beside = with_rate(EXAMPLE, listed[:1], rs.UNRATED)
+        yield from (exposure_case(record, bus, with_rate(EXAMPLE, codes, rate)) for codes in (listed[-1:], others[-1:], above))
+        yield from (exposure_case(record, bus, with_rate(beside, codes, rate)) for codes in (listed[-1:], others[:1], above))
+    for n, kind in itertools.product((3, 5, 19, 20), KINDS):
+        for number in sorted({1, n, min(n + 1, 20)}):
+            yield exposure_case(loaded(n), 1, with_rate(EXAMPLE, [rs.code_of(kind, number)], rs.mean_hours_rate(.5)))
+
+
+def refused_exposures():
+    """9 before 10, 15 and 16, and 10 before 15 and 16: damaged records, and buses outside the ring, with good rates and bad ones."""
+    unrated = all_rated(rs.UNRATED)
+    rates = [EXAMPLE, all_rated(OUTSIDE[0]), unrated, with_rate(unrated, [0], OUTSIDE[3])]
+    for n in (3, 6):
+        calls = itertools.cycle(itertools.product((1, n, 0, n + 1, 255), rates))
+        for record in itertools.chain(damaged_records(n), damaged_loads(n)):
+            yield from (exposure_case(record, *call) for call in itertools.islice(calls, 2))
+    for n in (3, 6, 20):
+        yield from (exposure_case(loaded(n), *call) for call in itertools.product((0, n + 1, 21, 128, 255), rates))
+
+
+def worn_exposures(rng):
+    """Rings with any faults and locks, and any rates: with no part unrated, some, or those that are in no listed set; now and then a rate is
+    turned away, a record is damaged, or a bus is outside the ring."""
+    for n in [3, 4, 5, 6, 7, 8] * 40 + [9, 10, 11, 12, 13] * 4 + [16, 20]:
+        record, bus = worn_record(rng, n), rng.randint(1, n)
+        high = rng.choice([-20, -20, -3, 0])
+        rates = rates_by(lambda code: any_rate(rng, high - 10, high, rng.choice(["chance", "hours"])))
+        unrated = rng.choice([[], rng.sample(rs.ALL_CODES, 3), listed_parts(record, bus)[1], listed_parts(record, bus)[1]])
+        rates = with_rate(rates, unrated, rs.UNRATED)
+        if rng.random() < .1:
+            rates = with_rate(rates, [rng.choice(rs.ALL_CODES)], rng.choice(OUTSIDE))
+        if rng.random() < .05:
+            record.orders[rng.choice(rs.ALL_CODES)] ^= True
+        if rng.random() < .05:
+            bus = rng.choice([0, n + 1, 255])
+        yield exposure_case(record, bus, rates, now_and_then_behind(rng))
+
+
+def exposures(rng):
+    return itertools.chain(edge_exposures(), digit_exposures(rng), unrated_exposures(), outside_exposures(), refused_exposures(),
+                           worn_exposures(rng))
 
 
 RINGS = (3, 4, 5, 8, 12, 20)
@@ -1308,19 +1490,20 @@ def write(path, data):
 
 
 def all_cases(seeds, started):
-    """The cases of each program; those of started rings are the same for all seeds."""
+    """The cases of each program; minimal cut sets, and the chances over them, are the same for all seeds where rings are started."""
     yield "vectors", list(runs(random.Random(seeds[0])))
     yield "vectors_plant", list(plant(random.Random(seeds[1])))
     rng = random.Random(seeds[2])
     yield "vectors_step", list(itertools.chain(steps(rng), returning_steps(rng), locking_steps(rng), outward_steps(), loaded_steps(rng)))
-    yield "vectors_cuts", list(itertools.chain(started, cuts(random.Random(seeds[3]))))
+    yield "vectors_cuts", list(itertools.chain(started_cuts() if started else [], cuts(random.Random(seeds[3]))))
     yield "vectors_scan", list(scans(random.Random(seeds[4])))
     yield "vectors_book", list(bookings(random.Random(seeds[5])))
+    yield "vectors_exposure", list(itertools.chain(started_exposures() if started else [], exposures(random.Random(seeds[6]))))
 
 
 def stored_files():
     """The files that are stored below crates/, and their bytes."""
-    for crate, cases in all_cases([1, 2, 3, 4, 7, 6], started_cuts()):
+    for crate, cases in all_cases([1, 2, 3, 4, 7, 6, 8], started=True):
         yield os.path.join(crate, "data", "cases"), b"".join(cases)
         yield os.path.join(crate, "stdout"), b"%d cases, 0 differ\n" % len(cases)
     yield os.path.join("ringctl", "stdin"), GATE_RUN
@@ -1345,7 +1528,7 @@ def store():
 
 def make_others(seed, folder):
     """Other cases, drawn by a seed."""
-    for crate, cases in all_cases(["%s %d" % (seed, k) for k in range(6)], []):
+    for crate, cases in all_cases(["%s %d" % (seed, k) for k in range(7)], started=False):
         write(os.path.join(folder, crate, "cases"), b"".join(cases))
         print("%s: %d cases" % (crate, len(cases)))
 

@@ -1,5 +1,6 @@
 """What the tests of the tools share."""
 import os
+import struct
 import subprocess
 import sys
 import unittest
@@ -194,6 +195,21 @@ def simulated_scans(data, together=False):
     return make_vectors.scans_text(size, [sum(reports, [])] if together else reports).encode()
 
 
+def rate_of(data):
+    """A rate of a stored case."""
+    figure = struct.unpack("<d", data[1:])[0]
+    return {0: ringsim.chance_rate(figure), 1: ringsim.mean_hours_rate(figure)}.get(data[0], ringsim.UNRATED)
+
+
+class ExposureCase:
+    """A stored case of the chance of a dark hour."""
+
+    def __init__(self, data):
+        self.record, self.bus, rates = record_of(data[:RECORD]), data[674], data[675:1215]
+        self.n, self.rates = self.record.n, {code: rate_of(rates[9 * k:9 * k + 9]) for k, code in enumerate(ringsim.ALL_CODES)}
+        self.number, self.count, self.bits = data[1215], number_of(data[1216:1218]), data[1218:]
+
+
 def load_call(call):
     """A call of bin/ringload as the simulation is asked: a word, and what it takes."""
     if call.kind == ringload.BOOKING:
@@ -221,12 +237,13 @@ def simulated_loads(data, with_run=False):
 
 
 # Of the programs whose cases hold a record: the bytes of a case before those of its buffer, the first that is expected, and the room of the
-# buffer; a booking has none.
+# buffer; a booking has none, and the chance of a dark hour neither.
 LAYOUTS = {
     "vectors_step": (1394, 679, lambda case: case[678]),
     "vectors_scan": (1583, 868, lambda case: case[867]),
     "vectors_cuts": (680, 677, lambda case: number_of(case[675:677])),
     "vectors_book": (1357, 682, lambda case: 0),
+    "vectors_exposure": (1234, 1215, lambda case: 0),
 }
 
 

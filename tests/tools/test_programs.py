@@ -51,7 +51,7 @@ class Programs(unittest.TestCase):
         with tempfile.TemporaryDirectory() as folder:
             made = run([sys.executable, "-B", path("tests", "make_vectors.py"), "--seed", "14", "--out", folder])
             self.assertEqual(made.status, 0, made.said)
-            for name in ("vectors", "vectors_plant", "vectors_step", "vectors_cuts", "vectors_scan", "vectors_book"):
+            for name in ("vectors", "vectors_plant", "vectors_step", "vectors_cuts", "vectors_scan", "vectors_book", "vectors_exposure"):
                 if os.access(path("target", "bin", name), os.X_OK):
                     with self.subTest(name):
                         answer = program(name, cwd=os.path.join(folder, name))

@@ -55,6 +55,7 @@ class Seven(unittest.TestCase):
         self.assertEqual(answers_of("vectors_scan"), {0, 5, 6, 8, 9, 11})
         self.assertEqual(answers_of("vectors_cuts"), {0, 8, 9, 10})
         self.assertEqual(answers_of("vectors_book"), {0, 9, 10, 12, 13, 14})
+        self.assertEqual(answers_of("vectors_exposure"), {0, 9, 10, 15, 16})
         self.assertEqual(answers_of("vectors_plant"), {0, 2, 9})
 
     def test_no_output_of_the_gate_is_7(self):

@@ -2,15 +2,13 @@
 use mathlib.Core.Path.{_≡_, refl, sym, _∙_, ap}
 use mathlib.Core.Bool.{false, cond}
 use mathlib.Core.Logic.{_⊎_, inl, inr, _≢_}
-use mathlib.Core.List.{List, [], _∷_, _++_, map, flatMap, map-append, append-assoc, List·Memᴰ·head, List·Memᴰ·tail}
-use Prim.Native.Nat.{ℕ, zero, suc, _+_, _*_, _/_, _%_, _≤_, _<_}
+use mathlib.Core.List.{List, [], _∷_, _++_, map, map-append, append-assoc, List·Memᴰ·head, List·Memᴰ·tail}
+use Prim.Native.Nat.{ℕ, suc, _+_, _*_, _≤_, _<_}
 use Prim.Native.Char.{code}
-use native.Mathlib.Nat.{zero-add}
 use native.Mathlib.Numerals.{add-one}
 use native.Mathlib.Omega.{arith}
 use lib.Dec.{eqb}
-use lib.ListN.{length, getD, length-append, length-map, List·getD-append, List·getD-map}
-use lib.Seq.{getD-append-add, ext-getD}
+use lib.ListN.{length, getD, length-append, length-map}
 use borrow.Author.Tests.{eq-eqb, ne-eqb}
 use Rattle.model.specs.declared.Part.{Part}
 use Rattle.model.specs.declared.Part.the-variants.{Generator, GeneratorBreaker, BusBreaker}
@@ -21,9 +19,9 @@ use Rattle.model.specs.CutSets.{setBytes, cutSheet}
 use Rattle.model.specs.Text.{ascii, decimal, spaced, joined, partName}
 use Rattle.model.specs.CutText.{setLine, countLine, cutText}
 use Rattle.model.specs.Laws.Tests.{dec-eq}
-use Rattle.model.specs.Laws.Lists.{at-in, below-length, map-below-at, map-at}
+use Rattle.model.specs.Laws.Lists.{at-in, below-length, map-index, map-at}
 use Rattle.model.specs.Laws.Parts.{index-suc}
-use Rattle.model.specs.Laws.CutSets.{bytes-length}
+use Rattle.model.specs.Laws.CutSets.{sheet-byte, Few}
 use Rattle.model.specs.Laws.Appended.{Appended, appended-none, appended-more}
 use Rattle.model.specs.Laws.Spaced.{joined-one, joined-length}
 use Rattle.numbers.specs.Numbers.{marked, decimal-length}
@@ -180,32 +178,6 @@ text-length bus count bytes h l =
 
 -- ---- the text of a sheet is the model's
 
--- byte j of set i, behind the count ..
-byte-at : (sets : List (List Part)) (rest : List ℕ) (i j : ℕ) → i < length sets → j < 3
-    → getD (flatMap setBytes sets ++ rest) (3 * i + j) 0 ≡ getD (setBytes (getD sets i [])) j 0
-unfolding flatMap
-byte-at [] rest i j h l = absurd (omega arith)
-byte-at (S ∷ sets) rest zero j h l =
-    rw (zero-add, append-assoc) (List·getD-append (setBytes S) (flatMap setBytes sets ++ rest) 0 j (omega (arith, bytes-length S)))
-byte-at (S ∷ sets) rest (suc i) j h l =
-    let e : 3 * suc i + j ≡ length (setBytes S) + (3 * i + j) = omega (arith, bytes-length S) in
-    rw (e, append-assoc)
-    (getD-append-add (setBytes S) (flatMap setBytes sets ++ rest) (3 * i + j) 0 ∙ byte-at sets rest i j (omega arith) l)
-
--- .. and in the sheet
-sheet-byte : (sets : List (List Part)) (rest : List ℕ) (i j k : ℕ) → i < length sets → j < 3 → k ≡ 2 + 3 * i + j
-    → getD (cutSheet sets ++ rest) k 0 ≡ getD (setBytes (getD sets i [])) j 0
-unfolding cutSheet
-sheet-byte sets rest i j k h l e =
-    let z : k ≡ 2 + (3 * i + j) = omega arith in
-    rw z
-    (getD-append-add ((length sets % 256) ∷ (length sets / 256) ∷ []) (flatMap setBytes sets ++ rest) (3 * i + j) 0
-    ∙ byte-at sets rest i j h l)
-
--- a set of at most three parts of a ring of n
-abbrev pub Few : ℕ → List Part → Type 0
-Few n S = (length S ≤ 3) × ((p : Part) → p ∈ S → InRing n p)
-
 module _ (n : ℕ) (h : n ≤ largest) where
   -- no part's code says unused
   other-code : (p : Part) → InRing n p → partCode p ≢ 255
@@ -247,13 +219,5 @@ module _ (n : ℕ) (h : n ≤ largest) where
     -- whatever stands behind the sheet
     pub cut-text : (bus : ℕ) → textOf bus (length sets) (cutSheet sets ++ rest) ≡ cutText bus sets
     unfolding textOf linesOf cutText
-    cut-text bus = ap (λ ts. countLine bus (length sets) ++ joined ts) all
-      where
-        f : ℕ → List ℕ
-        f i = lineFrom (cutSheet sets ++ rest) (2 + 3 * i)
-
-        all : map f (below (length sets)) ≡ map setLine sets
-        all =
-            ext-getD (setLine []) _ _ (simp (length-map, below-length))
-            (λ i b. let l : i < length sets = rw (length-map, below-length) at b in
-            map-below-at f (length sets) i (setLine []) l ∙ (line-is i l ∙ sym (List·getD-map setLine sets i [])))
+    cut-text bus =
+        ap (λ ts. countLine bus (length sets) ++ joined ts) (map-index (λ i. lineFrom (cutSheet sets ++ rest) (2 + 3 * i)) setLine sets [] line-is)

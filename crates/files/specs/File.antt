@@ -9,6 +9,7 @@ use lib.Dec.{eqb, ltb}
 use lib.ListN.{length, take, drop}
 use lib.Seq.{take-all, getD-take, length-take-le}
 use borrow.Author.Tests.{eqb-true, eq-eqb, ne-eqb, lt-ltb, le-ltb}
+use Rattle.model.specs.declared.Rates.{Rates}
 use Rattle.model.specs.declared.Outcome.{Outcome}
 use Rattle.model.specs.declared.Outcome.the-variants as outcome
 use Rattle.model.specs.declared.FileAnswer.{FileAnswer}
@@ -21,6 +22,7 @@ use Rattle.model.specs.Lists.{below}
 use Rattle.model.specs.Text.{servedLines, refusedText, refusedLines, runLines, joined, printedRun, longestFile, readSize}
 use Rattle.model.specs.CutSets.{ringCutSets}
 use Rattle.model.specs.CutText.{cutText, latestRing, printedCutSets}
+use Rattle.model.specs.ExposureText.{exposureLines, printedExposures}
 use Rattle.model.specs.Laws.Tests.{dec, dec-lt}
 use Rattle.model.specs.Laws.Refusals.{when-served, when-refused}
 use Rattle.files.specs.Served.{stretches}
@@ -174,6 +176,11 @@ lines-read = made-read servedLines refusedLines
 pub cuts-read : (f : List ℕ) → printedCutSets (take readSize f) ≡ printedCutSets f
 unfolding printedCutSets made
 cuts-read = made-read (λ f. joined (map (λ b. cutText (suc b) (ringCutSets (latestRing f) (suc b))) (below (fileSize f)))) refusedText
+
+-- and its printed chances of a dark hour
+pub exposures-read : (r : Rates) (f : List ℕ) → printedExposures r (take readSize f) ≡ printedExposures r f
+unfolding printedExposures made
+exposures-read r = made-read (λ f. exposureLines r (latestRing f) (fileSize f)) refusedText
 
 -- and its printed run
 pub run-read : (f : List ℕ) → printedRun (take readSize f) ≡ printedRun f

@@ -18,3 +18,4 @@ pub mod Exposure
 pub mod Scans
 pub mod ScanText
 pub mod LoadText
+pub mod ExposureText

@@ -2,18 +2,19 @@
 use mathlib.Core.Path.{_≡_, refl, sym, _∙_, ap}
 use mathlib.Core.Bool.{Bool, true, false, _||_, cond}
 use mathlib.Core.Logic.{_⊎_, inl, inr}
-use mathlib.Core.List.{List, [], _∷_, _++_, map, flatMap, List·Memᴰ·head, List·Memᴰ·tail, List·Memᴰ·not-nil, Memᴰ·cast}
-use Prim.Native.Nat.{ℕ, _+_, _*_}
+use mathlib.Core.List.{List, [], _∷_, _++_, map, flatMap, List·Memᴰ·head, List·Memᴰ·tail, List·Memᴰ·not-nil, Memᴰ·cast, append-assoc}
+use Prim.Native.Nat.{ℕ, zero, suc, _+_, _*_, _/_, _%_, _≤_, _<_}
+use native.Mathlib.Nat.{zero-add}
 use native.Mathlib.Omega.{arith}
-use lib.ListN.{length, length-append}
-use lib.Seq.{length-take-le}
+use lib.ListN.{length, getD, length-append, List·getD-append}
+use lib.Seq.{length-take-le, getD-append-add}
 use Rattle.model.specs.declared.Part.{Part}
 use Rattle.model.specs.declared.Part.the-variants.{Generator, GeneratorBreaker, BusBreaker}
 use Rattle.model.specs.Lists.{anyOf, _∈_}
 use Rattle.model.specs.Values.{partCode, samePart, wordNumber}
-use Rattle.model.specs.Plant.{PartHealth, generator}
+use Rattle.model.specs.Plant.{PartHealth, generator, InRing}
 use Rattle.model.specs.Reports.{healthBy, lockBy, reported}
-use Rattle.model.specs.CutSets.{faultWord, faultReport, withFaults, setBytes, cutSheet}
+use Rattle.model.specs.CutSets.{mostFaults, faultWord, faultReport, withFaults, setBytes, cutSheet}
 use Rattle.model.specs.Laws.Tests.{contra, dec}
 use Rattle.model.specs.Laws.Lists.{all-cons, any-at, any-in, any-false}
 use Rattle.model.specs.Laws.Parts.{same-eq, same-refl}
@@ -116,3 +117,32 @@ bytes-count (S ∷ Ss) = omega (arith, length-append (setBytes S) (flatMap setBy
 pub cut-sheet-length : (Ss : List (List Part)) → length (cutSheet Ss) ≡ 2 + 3 * length Ss
 unfolding cutSheet
 cut-sheet-length Ss = omega (arith, bytes-count Ss)
+
+-- byte j of set i ..
+byte-at : (sets : List (List Part)) (rest : List ℕ) (i j : ℕ) → i < length sets → j < 3
+    → getD (flatMap setBytes sets ++ rest) (3 * i + j) 0 ≡ getD (setBytes (getD sets i [])) j 0
+unfolding flatMap
+byte-at [] rest i j h l = absurd (omega arith)
+byte-at (S ∷ sets) rest zero j h l =
+    rw (zero-add, append-assoc) (List·getD-append (setBytes S) (flatMap setBytes sets ++ rest) 0 j (omega (arith, bytes-length S)))
+byte-at (S ∷ sets) rest (suc i) j h l =
+    let e : 3 * suc i + j ≡ length (setBytes S) + (3 * i + j) = omega (arith, bytes-length S) in
+    rw (e, append-assoc)
+    (getD-append-add (setBytes S) (flatMap setBytes sets ++ rest) (3 * i + j) 0 ∙ byte-at sets rest i j (omega arith) l)
+
+-- .. behind the count ..
+pub behind-count : (sets : List (List Part)) (rest : List ℕ) (k : ℕ)
+    → getD (cutSheet sets ++ rest) (2 + k) 0 ≡ getD (flatMap setBytes sets ++ rest) k 0
+unfolding cutSheet
+behind-count sets rest k = getD-append-add ((length sets % 256) ∷ (length sets / 256) ∷ []) (flatMap setBytes sets ++ rest) k 0
+
+-- .. in the sheet, whatever stands behind that
+pub sheet-byte : (sets : List (List Part)) (rest : List ℕ) (i j k : ℕ) → i < length sets → j < 3 → k ≡ 2 + 3 * i + j
+    → getD (cutSheet sets ++ rest) k 0 ≡ getD (setBytes (getD sets i [])) j 0
+sheet-byte sets rest i j k h l e =
+    let z : k ≡ 2 + (3 * i + j) = omega arith in
+    rw z (behind-count sets rest (3 * i + j) ∙ byte-at sets rest i j h l)
+
+-- a set of at most three parts of a ring of n
+abbrev pub Few : ℕ → List Part → Type 0
+Few n S = (length S ≤ mostFaults) × ((p : Part) → p ∈ S → InRing n p)

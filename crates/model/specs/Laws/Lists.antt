@@ -24,8 +24,8 @@ use mathlib.Core.Option.{Option, none, some}
 use Prim.Native.Nat.{ℕ, zero, suc, _+_, _<_, _≤_}
 use native.Mathlib.Numerals.{add-one}
 use native.Mathlib.Omega.{arith}
-use lib.ListN.{length, getD, length-append, List·getD-append}
-use lib.Seq.{getD-append-seam}
+use lib.ListN.{length, getD, length-map, length-append, List·getD-append, List·getD-map}
+use lib.Seq.{getD-append-seam, ext-getD}
 use Rattle.model.specs.Lists.{below, keep, first, anyOf, allOf, _∈_, RisingBy, empty, more}
 use Rattle.model.specs.Laws.Tests.{never, contra, and-left, and-right, and-intro, or-cases, or-left, or-right, dec, dec-eq}
 
@@ -88,6 +88,14 @@ map-within f (x ∷ xs) (suc i) c d h = map-within f xs i c d (omega arith)
 -- what f makes of the numbers below n has f i at each i
 pub map-below-at : {A : Type 0} (f : ℕ → A) (n i : ℕ) (d : A) → i < n → getD (map f (below n)) i d ≡ f i
 map-below-at f n i d h = map-within f (below n) i 0 d (omega (arith, below-length n)) ∙ ap f (below-at n i 0 h)
+
+-- what f makes of each index of a list is what g makes of the element there
+pub map-index : {A B : Type 0} (f : ℕ → B) (g : A → B) (l : List A) (d : A) → ((i : ℕ) → i < length l → f i ≡ g (getD l i d))
+    → map f (below (length l)) ≡ map g l
+map-index f g l d h =
+    ext-getD (g d) _ _ (simp (length-map, below-length))
+    (λ i b. let k : i < length l = rw (length-map, below-length) at b in
+    map-below-at f (length l) i (g d) k ∙ (h i k ∙ sym (List·getD-map g l i d)))
 
 pub map-in : {A B : Type 0} (f : A → B) {x : A} {xs : List A} → x ∈ xs → f x ∈ map f xs
 map-in f (List·Memᴰ·head p) = List·Memᴰ·head (ap f p)
@@ -183,6 +191,21 @@ module _ {A : Type 0} (f : A → Bool) where
   unfolding allOf
   all-ext g [] h = refl
   all-ext g (x ∷ xs) h = rw (h x (List·Memᴰ·head refl), all-ext g xs (λ y m. h y (List·Memᴰ·tail m)))
+
+pub any-append : {A : Type 0} (f : A → Bool) (xs ys : List A) → anyOf f (xs ++ ys) ≡ anyOf f xs || anyOf f ys
+unfolding anyOf
+any-append f [] ys = refl
+any-append f (x ∷ xs) ys = ap (λ b. f x || b) (any-append f xs ys) ∙ sym (or-assoc (f x) (anyOf f xs) (anyOf f ys))
+
+pub any-map : {A B : Type 0} (f : B → Bool) (g : A → B) (xs : List A) → anyOf f (map g xs) ≡ anyOf (λ x. f (g x)) xs
+unfolding anyOf
+any-map f g [] = refl
+any-map f g (x ∷ xs) = ap (λ b. f (g x) || b) (any-map f g xs)
+
+pub any-flat : {A B : Type 0} (f : B → Bool) (g : A → List B) (xs : List A) → anyOf f (flatMap g xs) ≡ anyOf (λ x. anyOf f (g x)) xs
+unfolding anyOf flatMap
+any-flat f g [] = refl
+any-flat f g (x ∷ xs) = any-append f (g x) (flatMap g xs) ∙ ap (λ b. anyOf f (g x) || b) (any-flat f g xs)
 
 -- one index more
 pub any-below : (f : ℕ → Bool) (i : ℕ) {b : Bool} → b ≡ anyOf f (below i) → b || f i ≡ anyOf f (below (i + 1))

@@ -23,6 +23,7 @@ use Rattle.model.specs.CutSets.{cutSetsReply}
 use Rattle.model.specs.Exposure.{exposureAnswer}
 use Rattle.model.specs.Text.{refusedText, printedRun}
 use Rattle.model.specs.CutText.{printedCutSets}
+use Rattle.model.specs.ExposureText.{answeredText, printedExposures}
 use Rattle.model.specs.ScanText.{scanText}
 
 -- for every argument, the number of the answer is not k, and the text is not its refusal
@@ -55,7 +56,11 @@ pub record NeverGiven (k : ℕ) : Type 0 where
   pub list : (state : RingState) (bus : ℕ) (buffer : List ℕ) → outcomeNumber (cutSetsReply state bus buffer .answer .outcome) ≢ k
   -- exposure::of_bus
   pub of-bus : (state : RingState) (bus : ℕ) (r : Rates) → outcomeNumber (exposureAnswer state bus r .outcome) ≢ k
-  -- run::fill and cursor::next_line, piece by piece, and ringctl; ringcuts; calls::scan_text and ringscan
+  -- run::fill and cursor::next_line, piece by piece, and ringctl; ringcuts; ringchance, a file and each bus; calls::scan_text and ringscan
   pub printed-run : (file : List ℕ) → printedRun file ≢ refusedText k
   pub printed-cut-sets : (file : List ℕ) → printedCutSets file ≢ refusedText k
+  pub printed-exposures : (r : Rates) (file : List ℕ) → printedExposures r file ≢ refusedText k
+  pub answered-text : (state : RingState) (bus : ℕ) (r : Rates)
+      → (let a = exposureAnswer state bus r in
+      answeredText (a .outcome) (a .exposure) ≢ refusedText k)
   pub scan-text : (i : ℕ) (ring : Ring) (s : Scan) → scanText i ring s ≢ refusedText k

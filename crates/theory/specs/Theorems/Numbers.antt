@@ -10,7 +10,7 @@ use native.Mathlib.Omega.{arith}
 use lib.Dec.{eqb, ltb}
 use lib.IntN.{pos}
 use lib.ListN.{length, getD, drop, length-append}
-use lib.Ieee.{fin, lt, eq, le}
+use lib.Ieee.{fin, binary64, toBits, lt, eq, le}
 use borrow.Author.Tests.{ltb-true, ltb-false, eq-eqb}
 use Rattle.model.specs.declared.Part.{Part}
 use Rattle.model.specs.declared.Part.the-variants.{Generator}
@@ -26,6 +26,9 @@ use Rattle.model.specs.declared.Booking.{Booking}
 use Rattle.model.specs.declared.Load.{Load}
 use Rattle.model.specs.declared.Rate.the-variants.{Chance, Unrated}
 use Rattle.model.specs.declared.Rates.{Rates}
+use Rattle.model.specs.declared.Exposure.{Exposure}
+use Rattle.model.specs.declared.Outcome.{Outcome}
+use Rattle.model.specs.declared.Outcome.the-variants as outcome
 use Rattle.model.specs.declared.BookingAnswer.{BookingAnswer}
 use Rattle.model.specs.declared.ReportAnswer.the-variants.{Missing}
 use Rattle.model.specs.declared.FileAnswer.the-variants.{Served}
@@ -170,6 +173,7 @@ use Rattle.model.specs.Text.{
   printedRun,
 }
 use Rattle.model.specs.CutText.{countLine, cutText, latestRing, printedCutSets}
+use Rattle.model.specs.ExposureText.{hexDigit, hexDigits, bitsText, exposureText, answeredText, exposureLine, busExposureLine, exposureLines, printedExposures}
 use Rattle.model.specs.ScanText.{sheetRoom, scanText}
 use Rattle.model.specs.Laws.Tests.{contra, dec, by-cond}
 use Rattle.model.specs.Laws.Refusals.{outcome-number}
@@ -399,6 +403,35 @@ cuts-never f =
     by-cond (λ text. text ≢ refusedText 7) (eqb (fileRefusal f) 0) (λ t. buses-never (λ b. ringCutSets (latestRing f) (suc b)) (below (fileSize f)))
     (λ t. text-never (fileRefusal f) (file-never f))
 
+-- served chances of a dark hour begin with a bus
+chances-never : (r : Rates) (ring : Ring) (bs : List ℕ) → joined (map (λ b. busExposureLine r ring (suc b)) bs) ≢ refusedText 7
+unfolding joined busExposureLine exposureLine refusedText ascii
+chances-never r ring [] e = let first : 0 ≡ code "r" = ap (λ l. getD l 0 0) e in omega arith
+chances-never r ring (b ∷ bs) e = let first : code "B" ≡ code "r" = ap (λ l. getD l 0 0) e in omega arith
+
+exposures-never : (r : Rates) (f : List ℕ) → printedExposures r f ≢ refusedText 7
+unfolding printedExposures exposureLines
+exposures-never r f =
+    by-cond (λ text. text ≢ refusedText 7) (eqb (fileRefusal f) 0) (λ t. chances-never r (latestRing f) (below (fileSize f)))
+    (λ t. text-never (fileRefusal f) (file-never f))
+
+hex-length : (d k : ℕ) → length (hexDigits d k) ≡ d
+unfolding hexDigits
+hex-length zero k = refl
+hex-length (suc d) k = omega (arith, length-append (hexDigits d (k / 16)) (hexDigit (k % 16) ∷ []), hex-length d (k / 16))
+
+longer : (b rest t : List ℕ) → b ++ rest ≡ t → length b ≤ length t
+longer b rest t e = omega (arith, ap length e, length-append b rest)
+
+-- and a bus's figures are longer than a refusal
+answered-never : (o : Outcome) (e : Exposure) → outcomeNumber o ≢ 7 → answeredText o e ≢ refusedText 7
+unfolding answeredText exposureText bitsText refusedText decimal digits ascii
+answered-never outcome.Served e p q =
+    let b = hexDigits 16 (toBits binary64 (e .sum)) in
+    let l : length b ≤ length (refusedText 7) = longer b _ (refusedText 7) q in
+    omega (arith, hex-length 16 (toBits binary64 (e .sum)))
+answered-never (outcome.Refused k) e p q = text-never k p q
+
 -- a served scan's line begins with its number
 begins : (i : ℕ) (rest text : List ℕ) → decimal i ++ rest ≡ text → getD text 0 0 ≤ 57
 unfolding decimal
@@ -442,6 +475,8 @@ never-seven = record {
   of-bus = λ state bus r. outcome-never _ (exposure-never state bus r);
   printed-run = run-never;
   printed-cut-sets = cuts-never;
+  printed-exposures = exposures-never;
+  answered-text = λ state bus r. answered-never _ _ (outcome-never _ (exposure-never state bus r));
   scan-text = scan-text-never;
 }
 
@@ -508,11 +543,12 @@ others-given = (
 -- every other call and text gives one of them
 pub each-gives : (NeverGiven 1 → ⊥) × (NeverGiven 5 → ⊥) × (NeverGiven 6 → ⊥) × (NeverGiven 5 → ⊥) × (NeverGiven 6 → ⊥)
     × (NeverGiven 2 → ⊥) × (NeverGiven 2 → ⊥) × (NeverGiven 9 → ⊥) × (NeverGiven 2 → ⊥) × (NeverGiven 9 → ⊥) × (NeverGiven 9 → ⊥)
-    × (NeverGiven 5 → ⊥) × (NeverGiven 1 → ⊥) × (NeverGiven 1 → ⊥) × (NeverGiven 9 → ⊥)
+    × (NeverGiven 5 → ⊥) × (NeverGiven 1 → ⊥) × (NeverGiven 1 → ⊥) × (NeverGiven 1 → ⊥) × (NeverGiven 9 → ⊥) × (NeverGiven 9 → ⊥)
 unfolding fileRefusal firstMet sizeOutside reportRefusal reportAnswer reportOf reportConditions notOfRing wordOfOtherKind partAnswer
     wordAnswer partNamed partCode parts below first wordNamed outcomeOf reportAt feedsAnswer feedsRefusal startReply startRefusal stepReply
     stepRefusal refusedReply refusedAnswer badRing anyOf blankRing firstRefusal printedRun runLines refusedLines joined printedCutSets
-    scanText scanReply scanRefusal stateStart stateStep stateRefusal refusedState badRecord unloaded
+    printedExposures answeredText exposureAnswer exposureRefusal scanText scanReply scanRefusal stateStart stateStep stateRefusal refusedState
+    badRecord unloaded
 each-gives = (
   λ never. never .ring-after (3 ∷ 0 ∷ []) refl,
   λ never. never .part-of 3 3 refl,
@@ -528,5 +564,7 @@ each-gives = (
   λ never. never .check 3 (no-part ∷ []) refl,
   λ never. never .printed-run (3 ∷ 0 ∷ []) (append-nil (refusedText 1)),
   λ never. never .printed-cut-sets (3 ∷ 0 ∷ []) refl,
+  λ never. never .printed-exposures (rated Unrated) (3 ∷ 0 ∷ []) refl,
+  λ never. never .answered-text (unloaded (blankRing 2)) 1 (rated Unrated) refl,
   λ never. never .scan-text 1 (blankRing 2) (record { reports = []; count = 0 }) refl,
 )

@@ -1,0 +1,2 @@
+-- What the bytes of a stored case stand for: the rates of parts.
+pub mod Rates

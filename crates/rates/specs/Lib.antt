@@ -1,0 +1,3 @@
+-- The laws of rates.
+pub mod Tests
+pub mod Places
