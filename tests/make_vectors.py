@@ -2,7 +2,8 @@
 """Makes the stored cases of the vector programs from the simulation in tests/simulation, never from our own programs.
 
     tests/make_vectors.py                       writes crates/vectors*/data/cases and stdout, and what the gate runs
-                                                ringctl, ringplant, ringtrace, ringcuts, ringscan and ringload on
+                                                ringctl, ringplant, ringtrace, ringcuts, ringscan, ringload and
+                                                ringchance on
     tests/make_vectors.py --seed S --out DIR    writes other cases, DIR/vectors/cases and so on; a program of stored cases
                                                 reads the file `cases` of the folder that it is run in
 
@@ -1337,18 +1338,51 @@ def set_text(codes):
     return " ".join(rs.name_of(code) for code in codes) or "-"
 
 
+def latest(file):
+    """The record after the last report of a file that is served, without bookings."""
+    record = rs.Record(file.n)
+    for code, word in zip(file.codes, file.words):
+        sim.take_word(record, rs.report_of(code, word))
+    return sim.record_for(file.n, record.health, record.locks)
+
+
 def cuts_text(data):
     """What ringcuts prints: the ring after the last report."""
     file = sim.parse_fault_file(data)
     if file.refusal:
         return "refused %d\n" % file.refusal
-    record, lines = rs.Record(file.n), []
-    for code, word in zip(file.codes, file.words):
-        sim.take_word(record, rs.report_of(code, word))
+    record, lines = latest(file), []
     for bus in range(1, file.n + 1):
         sets = cut_sets(record, bus)
         lines += ["B%d %d" % (bus, len(sets))] + [set_text(codes) for codes in sets]
     return "\n".join(lines) + "\n"
+
+
+def chances_file(rates, data):
+    """What ringchance reads: the rates of sixty parts, then a fault file."""
+    return b"".join(rate_bytes(code, rates[code]) for code in rs.ALL_CODES) + data
+
+
+def float_bits(x):
+    """The bits of a float as sixteen hexadecimal digits."""
+    return struct.pack(">d", x).hex()
+
+
+def chances(rates, data):
+    """The number of a file's refusal, and what the simulation answers for each bus after its last report."""
+    file = sim.parse_fault_file(data)
+    buses = [] if file.refusal else range(1, file.n + 1)
+    return file.refusal, [over_cut_sets(sim.chance_of_dark_hour, latest(file), bus, rates) for bus in buses]
+
+
+def chances_text(rates, data):
+    """What ringchance prints: the ring after the last report."""
+    refusal, answers = chances(rates, data)
+    if refusal:
+        return "refused %d\n" % refusal
+    figures = ["refused %d" % answer.refusal if answer.refusal else
+               "%s %s %d" % (float_bits(answer.sum), float_bits(answer.largest), answer.count) for answer in answers]
+    return "".join("B%d %s\n" % line for line in enumerate(figures, start=1))
 
 
 def scans_file(n, calls):
@@ -1440,6 +1474,15 @@ GATE_TRACE = fault_file(5, [(64, 3), (66, 2), (0, 1), (1, 1), (3, 1), (4, 1), (2
 GATE_CUTS = fault_file(6, [(65, 3), (67, 2), (32, 2), (68, 2), (4, 1), (2, 1), (32, 0), (2, 0), (5, 1), (0, 4), (3, 4), (3, 5)])
 
 
+def gate_chances():
+    """In a ring of eleven B11 is dark, and so needs no rate; B3 hangs on one breaker that is stuck closed; and an unrated GB6 is in sets of
+    B6 alone. Chances and hours are all different, and beside them stand rates above n that would be refused."""
+    rates = rates_by(lambda code: rs.chance_rate(3e-7 + code * 1e-9) if code % 3 else rs.mean_hours_rate(7e6 + code * 11.0))
+    rates = with_rate(rates, [rs.code_of("GB", 6), rs.code_of("G", 11)], rs.UNRATED)
+    rates = with_rate(rates, [rs.code_of(kind, number) for kind in KINDS for number in (12, 20)], rs.chance_rate(float("nan")))
+    return rates, fault_file(11, [(10, 1), (73, 2), (74, 2), (2, 4), (65, 2), (66, 3), (5, 1), (5, 0)])
+
+
 def gate_scans():
     """A ring of five and its calls."""
     calls = [
@@ -1514,6 +1557,8 @@ def stored_files():
     yield os.path.join("ringtrace", "stdout"), trace_text(GATE_TRACE).encode()
     yield os.path.join("ringcuts", "stdin"), GATE_CUTS
     yield os.path.join("ringcuts", "stdout"), cuts_text(GATE_CUTS).encode()
+    yield os.path.join("ringchance", "stdin"), chances_file(*gate_chances())
+    yield os.path.join("ringchance", "stdout"), chances_text(*gate_chances()).encode()
     yield os.path.join("ringscan", "stdin"), scans_file(*gate_scans())
     yield os.path.join("ringscan", "stdout"), scans_text(*gate_scans()).encode()
     yield os.path.join("ringload", "stdin"), loads_file(*gate_loads())

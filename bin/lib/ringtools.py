@@ -71,14 +71,19 @@ def command(name, use, run):
     sys.exit(status)
 
 
-def one_file(arguments, options=()):
-    """The options given and the file, None for standard input. More than one file is an error; where there is none and standard
-    input is a terminal, the use is shown. The file `-` is standard input, a terminal too."""
+def told_apart(arguments, options=()):
+    """The options given, and the files."""
     given = [a for a in arguments if a.startswith("-") and a != "-"]
-    files = [a for a in arguments if a not in given]
     for option in given:
         if option not in options:
             raise Failure("no such option: %s; --help shows the use" % option)
+    return given, [a for a in arguments if a not in given]
+
+
+def one_file(arguments, options=()):
+    """The options given and the file, None for standard input. More than one file is an error; where there is none and standard
+    input is a terminal, the use is shown. The file `-` is standard input, a terminal too."""
+    given, files = told_apart(arguments, options)
     if len(files) > 1:
         raise Failure("one file at a time, not %d: %s" % (len(files), " ".join(files)))
     if not files and os.isatty(0):

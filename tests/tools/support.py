@@ -1,5 +1,6 @@
 """What the tests of the tools share."""
 import os
+import re
 import struct
 import subprocess
 import sys
@@ -11,6 +12,7 @@ for folder in ("bin/lib", "tests", "tests/simulation"):
 sys.dont_write_bytecode = True
 import faultlines  # noqa: E402, F401
 import make_vectors  # noqa: E402, F401
+import ringchance  # noqa: E402, F401
 import ringload  # noqa: E402, F401
 import ringsim  # noqa: E402, F401
 from make_vectors import RULES, sim  # noqa: E402, F401
@@ -233,6 +235,30 @@ def simulated_loads(data, with_run=False):
         columns = ["refused %d" % refusal] if refusal else ["%-*s" % pair for pair in zip(wide, row)]
         text += "%-*s   %s" % (max(map(len, texts[:len(answers)])), words, "  ".join(columns).rstrip()) + "\n"
         text += "    %s\n" % line if line and with_run else ""
+    return text.encode()
+
+
+def rates_in(text):
+    """The rates of readable lines, by a reading of our own: of the lines whose pattern fits a part the last decides."""
+    rates = make_vectors.all_rated(ringsim.UNRATED)
+    for pattern, *words in filter(None, (line.split("#")[0].split() for line in text.decode().splitlines())):
+        rate = {"chance": ringsim.chance_rate, "hours": ringsim.mean_hours_rate}[words[0]](words[1]) if words[1:] else ringsim.UNRATED
+        named = re.compile(pattern.replace("*", "[0-9]+") if pattern != "*" else ".*")
+        rates = make_vectors.with_rate(rates, [code for code in rates if named.fullmatch(ringsim.name_of(code))], rate)
+    return rates
+
+
+def simulated_chances(rates, data):
+    """The simulation's answer for rates and a fault file, in the columns of bin/ringchance, two spaces behind the widest of each."""
+    refusal, answers = make_vectors.chances(rates_in(rates), data)
+    if refusal:
+        return b"refused %d\n" % refusal
+    figures = [("sum %r" % answer.sum, "largest %r" % answer.largest, "sets %d" % answer.count) for answer in answers]
+    wide = [max((len(row[k]) for row, answer in zip(figures, answers) if not answer.refusal), default=0) for k in range(3)]
+    text = ""
+    for bus, (row, answer) in enumerate(zip(figures, answers), start=1):
+        columns = "refused %d" % answer.refusal if answer.refusal else "  ".join("%-*s" % pair for pair in zip(wide, row)).rstrip()
+        text += "%-*s  %s\n" % (len("B%d" % len(answers)), "B%d" % bus, columns)
     return text.encode()
 
 

@@ -49,6 +49,16 @@ class Commands(unittest.TestCase):
         self.assertEqual(re.sub("^    ", "", shown, flags=re.M).encode(), answer)
         self.assertIn(answer, read("examples", "planning-desk.cuts"))
 
+    def test_the_chances_in_the_readme_the_examples_and_on_the_card(self):
+        rates, lines = path("examples", "published-rates.rates"), text_of("examples", "planning-desk.chances").splitlines()
+        answer = tool("ringchance", rates, path("examples", "planning-desk.txt")).out.decode()
+        for document, said, some in (("README.md", "Its answer is\n", lines), ("examples/README.md", "Its lines of B4 and B5 are\n", lines[3:5])):
+            shown = re.search(r"((?:    .*\n)+)", text_of(document).split(said)[1]).group(1)
+            self.assertEqual(shown.splitlines(), ["    " + line for line in some])
+        self.assertEqual(answer.splitlines(), lines)
+        line = re.search(r"`(B3  sum .*?)` is B3 of a ring of three", text_of("docs", "CARD.md")).group(1)
+        self.assertEqual(line, tool("ringchance", rates, data=b"ring 3\n").out.decode().splitlines()[2])
+
     def test_the_scan_in_the_readme(self):
         shown = re.search(r"((?:    .*\n)+)", text_of("README.md").split("Of the second the answer is\n")[1]).group(1)
         answer = tool("ringscan", "--together", path("examples", "cut-off.txt")).out
@@ -115,12 +125,12 @@ class Commands(unittest.TestCase):
         self.assertIn(line.encode() + b"\n", read("examples", "bus-breaker-open.run"))
 
     def test_card_and_readme_agree(self):
-        """Both have the picture of the ring, and the refusals from 1 to 14; 7 is given to no input any more."""
+        """Both have the picture of the ring, and the refusals from 1 to 16; 7 is given to no input any more."""
         readme, card = text_of("README.md"), text_of("docs", "CARD.md")
         picture = re.search(r"((?:    .*\n)+)", card).group(1)
         self.assertIn(picture, readme)
         for text in (readme, card):
-            self.assertEqual(re.findall(r"^\| (\d+) \|", text, re.M), [str(k) for k in range(1, 15)])
+            self.assertEqual(re.findall(r"^\| (\d+) \|", text, re.M), [str(k) for k in range(1, 17)])
             self.assertRegex(text, r"(?m)^\| 7 \| given to no input any more: it once meant ")
 
     def test_links_lead_somewhere(self):

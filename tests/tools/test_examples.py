@@ -4,7 +4,7 @@ import os
 import re
 import unittest
 
-from support import ToolCase, faultlines, make_vectors, path, read, ringsim, sim, simulated_loads, simulated_scans, tool
+from support import ToolCase, faultlines, make_vectors, path, rates_in, read, ringsim, sim, simulated_chances, simulated_loads, simulated_scans, tool
 
 
 def named(*pattern):
@@ -15,6 +15,8 @@ SCANS = named("*.scans")
 LOADS = named("*.loads")
 EXAMPLES = [name for name in named("*.txt") if name not in SCANS + LOADS]
 CUTS = named("*.cuts")
+CHANCES = named("*.chances")
+RATES = path("examples", "published-rates.rates")
 ERRORS = named("errors", "*.txt")
 
 
@@ -33,8 +35,15 @@ def simulated_cuts(lines):
     return make_vectors.cuts_text(faultlines.encode(lines)).encode()
 
 
+def published_chances(lines):
+    return simulated_chances(read("examples", "published-rates.rates"), faultlines.encode(lines))
+
+
 SIMULATED = {"ringctl": simulated_run, "ringcuts": simulated_cuts, "ringplant": simulated_plant, "ringscan": simulated_scans,
-             "ringload": simulated_loads}
+             "ringload": simulated_loads, "ringchance": published_chances}
+
+# What a command takes before the lines of an exercise.
+BEFORE = {"ringchance": [RATES]}
 
 
 def strokes(line):
@@ -46,12 +55,13 @@ class Examples(ToolCase):
 
     def test_each_has_its_files(self):
         examples = [(name, end) for name in EXAMPLES for end in ("txt", "faults", "run")] + [(name, "cuts") for name in CUTS]
+        examples += [(name, "chances") for name in CHANCES] + [("published-rates", "rates")]
         examples += [(name, end) for name in SCANS for end in ("txt", "scans")] + [(name, end) for name in LOADS for end in ("txt", "loads")]
         errors = [(name, end) for name in ERRORS for end in ("txt", "feeds")]
         for folder, wanted in (("examples", examples), ("examples/errors", errors)):
             files = [name for name in os.listdir(path(folder)) if not name.endswith(".md") and name != "errors"]
             self.assertEqual(sorted(files), sorted("%s.%s" % names for names in wanted))
-        self.assertLessEqual(set(CUTS), set(EXAMPLES))
+        self.assertLessEqual(set(CUTS + CHANCES), set(EXAMPLES))
 
     def test_each_is_in_the_list(self):
         text = read("examples", "README.md").decode()
@@ -77,6 +87,19 @@ class Examples(ToolCase):
                 self.assertEqual(simulated_cuts(read("examples", name + ".txt")), expected)
                 for end in (".txt", ".faults"):
                     self.check(tool("ringcuts", path("examples", name + end)), 0, expected)
+
+    def test_chances(self):
+        self.assertTrue(CHANCES)
+        for name in CHANCES:
+            with self.subTest(name):
+                expected = read("examples", name + ".chances")
+                self.assertEqual(published_chances(read("examples", name + ".txt")), expected)
+                for end in (".txt", ".faults"):
+                    self.check(tool("ringchance", RATES, path("examples", name + end)), 0, expected)
+
+    def test_published_rates(self):
+        """Those of document 004: 1e-7 a generator, 1e-8 a breaker."""
+        self.assertEqual(rates_in(read("examples", "published-rates.rates")), make_vectors.EXAMPLE)
 
     def test_scans(self):
         self.assertTrue(SCANS)
@@ -140,6 +163,7 @@ class Examples(ToolCase):
         self.assertEqual((seconds[7], seconds[10]), (b"G3+ GB3+ BB2+ BB1+ BB5+ BB4+", b"G4+ GB4+ BB5+"))
         self.assertIn(b"\n6 B1=- B2=- B3=- B4=- B5=- / ", runs["current-advances"])
         self.assertIn(b"\nB5 7\nBB5\n", read("examples", "planning-desk.cuts"))
+        self.assertRegex(read("examples", "planning-desk.chances"), rb"\nB5  sum 1\.0000001\d*e-08  largest 1e-08  +sets 7\n")
         self.assertIn(b" / - / -\n", read("examples", "one-cycle.scans"))
         self.assertNotIn(b"=-", read("examples", "one-cycle.scans"))
         single = re.sub(b"^(scan|end)\n", b"", read("examples", "one-cycle.txt"), flags=re.M)
@@ -167,7 +191,7 @@ class Exercises(ToolCase):
                 self.assertEqual(SIMULATED[tools[number]](lines), expected)
                 refused = re.search(b"^refused", expected, re.M)
                 said = "^%s: line .* refused" % tools[number] if refused and tools[number] in ("ringscan", "ringload") else None
-                self.check(tool(tools[number], data=lines), int(bool(refused)), expected, said)
+                self.check(tool(tools[number], *BEFORE.get(tools[number], []), data=lines), int(bool(refused)), expected, said)
 
 
 if __name__ == "__main__":
