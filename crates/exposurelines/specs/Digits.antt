@@ -1,14 +1,14 @@
--- Laws of the model's hexadecimal digits: how many, and the last.
+-- Laws of the model's hexadecimal digits, stored one after the other.
 use mathlib.Core.Path.{_≡_}
 use mathlib.Core.List.{List, [], _∷_, _++_}
-use Prim.Native.Nat.{ℕ, zero, suc, _+_, _-_, _/_, _%_, _≤_, _<_}
+use Prim.Native.Nat.{ℕ, _+_, _-_, _/_, _%_, _≤_, _<_}
 use Prim.Native.Char.{code}
 use native.Mathlib.Numerals.{add-one}
 use native.Mathlib.Omega.{arith}
-use lib.ListN.{length, length-append}
 use borrow.Author.Tests.{lt-ltb, le-ltb}
 use Rattle.model.specs.ExposureText.{hexDigit, hexDigits}
 use Rattle.model.specs.Laws.Appended.{Appended, appended-none}
+use Rattle.model.specs.Laws.Digits.{hex-length}
 
 -- the digits of a number below 16
 pub digit-low : (k x : ℕ) → k < 10 → x ≡ code "0" + k → x ≡ hexDigit k
@@ -29,12 +29,6 @@ pub hex-more : (d k c q x y : ℕ) → d ≡ c + 1 → q ≡ k / 16 → x ≡ k 
 unfolding hexDigits
 hex-more d k c q x y e f g h = rw (h, e, f, g, add-one)
 
--- as many digits as are asked for
-pub hex-length : (d k : ℕ) → length (hexDigits d k) ≡ d
-unfolding hexDigits
-hex-length zero k = omega arith
-hex-length (suc d) k = omega (arith, length-append (hexDigits d (k / 16)) (hexDigit (k % 16) ∷ []), hex-length d (k / 16))
-
--- .. end so many bytes behind their place
+-- the digits end so many bytes behind their place
 pub hex-end : (d k : ℕ) {l l′ : List ℕ} {at end : ℕ} → Appended (hexDigits d k) l at l′ end → end ≡ at + d
 hex-end d k a = omega (arith, a .end, hex-length d k)

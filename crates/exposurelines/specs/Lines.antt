@@ -4,16 +4,16 @@ use mathlib.Core.List.{List, _++_, append-assoc}
 use Prim.Native.Nat.{ℕ, _+_}
 use Prim.Native.Char.{code}
 use native.Mathlib.Omega.{arith}
-use lib.ListN.{length, length-append}
+use lib.ListN.{length-append}
 use lib.Ieee.{Float, binary64, toBits}
 use Rattle.model.specs.declared.Outcome.the-variants.{Served, Refused}
 use Rattle.model.specs.declared.Exposure.{Exposure}
 use Rattle.model.specs.declared.ExposureAnswer.{ExposureAnswer}
 use Rattle.model.specs.Text.{ascii, decimal, refusedText}
 use Rattle.model.specs.ExposureText.{hexDigits, bitsText, exposureText, answeredText, exposureLine}
+use Rattle.model.specs.Laws.Digits.{hex-length}
 use Rattle.model.specs.Laws.Appended.{Appended, appended-more}
 use Rattle.numbers.specs.Numbers.{marked}
-use Rattle.exposurelines.specs.Digits.{hex-length}
 
 -- the bits of a float, and a space behind them
 abbrev pub spacedBits : Float → List ℕ

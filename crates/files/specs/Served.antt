@@ -1,9 +1,9 @@
 -- A file that is not refused, what a file's answer says of it, and where its part codes and words stand.
-use mathlib.Core.Path.{_≡_, refl, sym}
-use mathlib.Core.Bool.{Bool, true, false, not, cond}
+use mathlib.Core.Path.{_≡_, sym}
+use mathlib.Core.Bool.{not}
 use mathlib.Core.Logic.{_⊎_, inl, inr, _≢_}
 use mathlib.Core.List.{List, [], _∷_}
-use Prim.Native.Nat.{ℕ, _+_, _-_, _*_, _≤_, _<_}
+use Prim.Native.Nat.{ℕ, _+_, _-_, _*_, _≤_}
 use native.Mathlib.Omega.{arith}
 use lib.Dec.{eqb, ltb}
 use lib.ListN.{length, take, drop, length-take, length-drop}
@@ -15,7 +15,7 @@ use Rattle.model.specs.Reports.{fileSize, fileCount, fileCodes, fileWords}
 use Rattle.model.specs.Refusals.{firstMet, orElse, sizeOutside, reportsRefusal, fileRefusal}
 use Rattle.model.specs.Answers.{fileAnswer}
 use Rattle.model.specs.Laws.Tests.{never, dec-eq}
-use Rattle.model.specs.Laws.Refusals.{size-bounds}
+use Rattle.model.specs.Laws.Refusals.{first-unmet, size-bounds}
 
 -- no file is both served and refused
 either : {n m k : ℕ} → file.Served n m ≡ file.Refused k → ⊥
@@ -29,11 +29,6 @@ or-else k l e = go (dec-eq k 0)
     go (inl z) = (z, rw z at e)
     go (inr z) = absurd (z (rw (ne-eqb k 0 z) at e))
 
--- a first condition that is not met
-or-zero : (t : Bool) (k l : ℕ) → 0 < k → cond t k l ≡ 0 → (t ≡ false) × (l ≡ 0)
-or-zero true k l h e = absurd (omega (arith, e))
-or-zero false k l h e = (refl, e)
-
 -- what a file that is not refused is: 2, 3 and 4 are not met, and no report is refused
 pub record Served (f : List ℕ) : Type 0 where
   pub big : smallest ≤ fileSize f
@@ -46,10 +41,10 @@ pub file-served : (f : List ℕ) → fileRefusal f ≡ 0 → Served f
 unfolding fileRefusal firstMet
 file-served f e =
     let t = or-else head (reportsRefusal (fileSize f) (fileCodes f) (fileWords f)) e in
-    let one = or-zero (ltb (length f) 3) 1 _ (omega arith) (t .0) in
-    let two = or-zero (sizeOutside (fileSize f)) 2 _ (omega arith) (one .1) in
-    let three = or-zero (ltb 4096 (fileCount f)) 3 _ (omega arith) (two .1) in
-    let four = or-zero (not (eqb (length f) (3 + 2 * fileCount f))) 4 0 (omega arith) (three .1) in
+    let one = first-unmet (ltb (length f) 3) 1 _ (omega arith) (t .0) in
+    let two = first-unmet (sizeOutside (fileSize f)) 2 _ (omega arith) (one .1) in
+    let three = first-unmet (ltb 4096 (fileCount f)) 3 _ (omega arith) (two .1) in
+    let four = first-unmet (not (eqb (length f) (3 + 2 * fileCount f))) 4 0 (omega arith) (three .1) in
     let size = size-bounds (fileSize f) (two .0) in
     record {
       big = size .0;

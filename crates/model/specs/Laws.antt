@@ -14,3 +14,4 @@ pub mod CutSets
 pub mod Spaced
 pub mod Scans
 pub mod Bookings
+pub mod Digits

@@ -1,8 +1,9 @@
 -- Laws of outcomes and of the refusals.
-use mathlib.Core.Path.{_≡_, sym, _∙_, ap}
-use mathlib.Core.Bool.{true, false, cond}
+use mathlib.Core.Path.{_≡_, refl, sym, _∙_, ap}
+use mathlib.Core.Bool.{Bool, true, false, cond}
 use mathlib.Core.Logic.{_⊎_, inl, inr, _≢_}
 use Prim.Native.Nat.{ℕ, _≤_, _<_}
+use native.Mathlib.Omega.{arith}
 use lib.Dec.{ltb, eqb}
 use borrow.Author.Tests.{ltb-false, lt-ltb, le-ltb, ne-eqb}
 use Rattle.model.specs.declared.Ring.{Ring}
@@ -22,6 +23,11 @@ outcome-number k = go (dec-eq k 0)
     go : (k ≡ 0) ⊎ (k ≢ 0) → outcomeNumber (outcomeOf k) ≡ k
     go (inl e) = rw e
     go (inr e) = rw (outcomeOf, ne-eqb k 0 e)
+
+-- a first condition that is not met
+pub first-unmet : (met : Bool) (j k : ℕ) → 0 < j → cond met j k ≡ 0 → (met ≡ false) × (k ≡ 0)
+first-unmet true j k h e = absurd (omega (arith, e))
+first-unmet false j k h e = (refl, e)
 
 -- a size that is not refused
 pub size-bounds : (n : ℕ) → sizeOutside n ≡ false → (smallest ≤ n) × (n ≤ largest)

@@ -1,10 +1,10 @@
 -- Chance of a dark hour (document 02, Note 8): the figures of a served answer are numbers within their bounds, no answer has a NaN, and the
 -- bits of a figure name one number.
 use mathlib.Core.Path.{_≡_, refl, sym, _∙_, ap}
-use mathlib.Core.Bool.{Bool, true, false, not, _&&_, cond}
+use mathlib.Core.Bool.{Bool, true, false, not, _&&_}
 use mathlib.Core.Logic.{_⊎_, inl, inr}
 use mathlib.Core.List.{List, [], _∷_, map, List·Memᴰ·head}
-use Prim.Native.Nat.{ℕ, _+_, _≤_, _<_}
+use Prim.Native.Nat.{ℕ, _+_, _≤_}
 use native.Mathlib.Omega.{arith}
 use lib.Dec.{T, eqb}
 use lib.IntN.{pos}
@@ -70,7 +70,7 @@ use Rattle.model.specs.Exposure.{
 use Rattle.model.specs.Laws.Tests.{contra, or-none, and-left, and-right, by-cond}
 use Rattle.model.specs.Laws.Lists.{map-in, map-at, any-none}
 use Rattle.model.specs.Laws.Parts.{parts-in}
-use Rattle.model.specs.Laws.Refusals.{good-size}
+use Rattle.model.specs.Laws.Refusals.{first-unmet, good-size}
 use Rattle.model.specs.Laws.Bookings.{good-state}
 use Rattle.theory.specs.Statements.Exposure.{Figures}
 use Rattle.theory.specs.Statements.Recipe.{byKind}
@@ -157,20 +157,15 @@ figures r sets h =
 
 -- ---- a served answer
 
--- a condition before others that refuses nothing
-unmet : (met : Bool) (j k : ℕ) → 0 < j → cond met j k ≡ 0 → (met ≡ false) × (k ≡ 0)
-unmet true j k h e = absurd (omega arith)
-unmet false j k h e = (refl, e)
-
 pub served-figures : (state : RingState) (bus : ℕ) (r : Rates) → exposureRefusal state bus r ≡ 0 → Figures r (ringCutSets (state .ring) bus)
 unfolding exposureRefusal firstMet someOutside unratedListed ringCutSets
 served-figures state bus r e =
     let n = state .ring .n in
     let sets = ringCutSets (state .ring) bus in
-    let nine = unmet (badRecord state) 9 _ (omega arith) e in
-    let ten = unmet (busOutside n bus) 10 _ (omega arith) (nine .1) in
-    let fifteen = unmet (someOutside n r) 15 _ (omega arith) (ten .1) in
-    let sixteen = unmet (unratedListed r sets) 16 _ (omega arith) (fifteen .1) in
+    let nine = first-unmet (badRecord state) 9 _ (omega arith) e in
+    let ten = first-unmet (busOutside n bus) 10 _ (omega arith) (nine .1) in
+    let fifteen = first-unmet (someOutside n r) 15 _ (omega arith) (ten .1) in
+    let sixteen = first-unmet (unratedListed r sets) 16 _ (omega arith) (fifteen .1) in
     let small : n ≤ largest = good-size (state .ring) (good-state state (nine .0) .ring-good) .1 in
     figures r sets
     (λ S m. product-portion r S

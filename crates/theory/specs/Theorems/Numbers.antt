@@ -173,10 +173,11 @@ use Rattle.model.specs.Text.{
   printedRun,
 }
 use Rattle.model.specs.CutText.{countLine, cutText, latestRing, printedCutSets}
-use Rattle.model.specs.ExposureText.{hexDigit, hexDigits, bitsText, exposureText, answeredText, exposureLine, busExposureLine, exposureLines, printedExposures}
+use Rattle.model.specs.ExposureText.{hexDigits, bitsText, exposureText, answeredText, exposureLine, busExposureLine, exposureLines, printedExposures}
 use Rattle.model.specs.ScanText.{sheetRoom, scanText}
 use Rattle.model.specs.Laws.Tests.{contra, dec, by-cond}
 use Rattle.model.specs.Laws.Refusals.{outcome-number}
+use Rattle.model.specs.Laws.Digits.{hex-length}
 use Rattle.theory.specs.Statements.Recipe.{byKind}
 use Rattle.theory.specs.Statements.Numbers.{NeverGiven}
 use Rattle.theory.specs.Theorems.Exposure.{rated}
@@ -414,11 +415,6 @@ unfolding printedExposures exposureLines
 exposures-never r f =
     by-cond (λ text. text ≢ refusedText 7) (eqb (fileRefusal f) 0) (λ t. chances-never r (latestRing f) (below (fileSize f)))
     (λ t. text-never (fileRefusal f) (file-never f))
-
-hex-length : (d k : ℕ) → length (hexDigits d k) ≡ d
-unfolding hexDigits
-hex-length zero k = refl
-hex-length (suc d) k = omega (arith, length-append (hexDigits d (k / 16)) (hexDigit (k % 16) ∷ []), hex-length d (k / 16))
 
 longer : (b rest t : List ℕ) → b ++ rest ≡ t → length b ≤ length t
 longer b rest t e = omega (arith, ap length e, length-append b rest)
