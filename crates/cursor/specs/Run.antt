@@ -3,7 +3,7 @@ use mathlib.Core.Path.{_≡_, refl, sym, _∙_, ap}
 use mathlib.Core.Bool.{Bool, true, false, cond}
 use mathlib.Core.Logic.{_⊎_, inl, inr, _≢_}
 use mathlib.Core.List.{List, [], _∷_}
-use Prim.Native.Nat.{ℕ, zero, suc, _+_, _-_, _/_, _≤_, _<_}
+use Prim.Native.Nat.{ℕ, zero, suc, _+_, _-_, _≤_, _<_}
 use native.Mathlib.Numerals.{add-one, add-two}
 use native.Mathlib.Omega.{arith}
 use lib.Dec.{eqb, ltb}
@@ -100,16 +100,15 @@ module _ (f : List ℕ) (served : fileRefusal f ≡ 0) where
           rw (ring-next i r is) (size, next-good (withPlan (runRing f i)) good r (rw size checked))
 
   -- the answer to report i as the code asks for it: of the ring's size, and of the two stretches of a file that has m reports
-  module _ {i m : ℕ} {ring : Ring} {a : ReportAnswer} (few : i < fileCount f) (count : m ≡ (length f - 3) / 2)
+  module _ {i m : ℕ} {ring : Ring} {a : ReportAnswer} (few : i < fileCount f) (count : m ≡ fileCount f)
       (state : ring ≡ withPlan (runRing f i))
       (answer : a ≡ reportAt (ring .n) (take (3 + m - 3) (drop 3 f)) (take (length f - (3 + m)) (drop (3 + m) f)) i) where
     report-is : (a ≡ reportAt (fileSize f) (fileCodes f) (fileWords f) i) × (ring .n ≡ fileSize f) × (badRing ring ≡ false)
     unfolding withPlan
     report-is =
         let good = ring-good i (omega arith) in
-        let whole = file-served f served .whole in
         let size : ring .n ≡ fileSize f = rw state (good .0) in
-        let both = stretches f whole m (3 + m) (omega arith) refl in
+        let both = stretches f m (3 + m) count refl in
         (answer ∙ rw (size, both .0, both .1), size, rw state (good .1))
 
     -- it is read, and the next ring is told it

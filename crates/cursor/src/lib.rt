@@ -14,6 +14,17 @@ use model::Ring;
 use model::RunCursor;
 use model::RunPiece;
 
+// The number m of the reports of a file that is served, by its length: 3 + 2m bytes, or none "without reports" (document 02, Note 9).
+fn report_count(file: &[u8]) -> usize
+    requires { ⌜ fileRefusal (now file) ≡ 0 ⌝ }
+    ensures { λ r. ⌜ r ≡ fileCount (now (file .entry)) ⌝ }
+{
+    if file.len() == 0 {
+        return 0;
+    }
+    (file.len() - 3) / 2
+}
+
 // The line of report i, counted from 0, of a file that is served: none of its reports is refused or missing.
 fn report_line(ring: Ring, file: &[u8], i: usize, out: &mut [u8]) -> Line
     requires { ⌜
@@ -22,7 +33,7 @@ fn report_line(ring: Ring, file: &[u8], i: usize, out: &mut [u8]) -> Line
         ⌝ }
     ensures { λ r. ⌜ Shown (i + 1) (runRing (now (file .entry)) (i + 1)) (now (out .entry)) (now (out .exit)) (r .ring) (r .length) ⌝ }
 {
-    let m = (file.len() - 3) / 2;
+    let m = report_count(file);
     match reports::report_at(ring.n, &file[3..3 + m], &file[3 + m..], i) {
         ReportAnswer::Read(report) => calls::step_line(ring, report, i + 1, out),
         ReportAnswer::Refused(_) => Line { ring, length: 0 },
@@ -69,10 +80,10 @@ pub fn next_line(cursor: RunCursor, file: &[u8], out: &mut [u8]) -> RunPiece
     if place == 0 {
         return first_line(ring, file, out);
     }
-    let lines = (file.len() - 3) / 2 + 2;
+    let lines = report_count(file) + 2;
     let next = place + 1;
     if place == 1 {
-        let line = calls::start_line(file[0], out);
+        let line = calls::start_line(files::bus_count(file), out);
         return piece_of(line, next, next < lines);
     }
     let line = report_line(ring, file, place - 2, out);

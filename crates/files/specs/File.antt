@@ -6,7 +6,7 @@ use mathlib.Core.List.{List, [], _∷_, map}
 use Prim.Native.Nat.{ℕ, suc, _+_, _-_, _*_, _≤_, _<_}
 use native.Mathlib.Omega.{arith}
 use lib.Dec.{eqb, ltb}
-use lib.ListN.{length, take, drop}
+use lib.ListN.{length, getD, take, drop}
 use lib.Seq.{take-all, getD-take, length-take-le}
 use borrow.Author.Tests.{eqb-true, eq-eqb, ne-eqb, lt-ltb, le-ltb}
 use Rattle.model.specs.declared.Rates.{Rates}
@@ -15,7 +15,7 @@ use Rattle.model.specs.declared.Outcome.the-variants as outcome
 use Rattle.model.specs.declared.FileAnswer.{FileAnswer}
 use Rattle.model.specs.declared.FileAnswer.the-variants as file
 use Rattle.model.specs.Values.{outcomeOf, numbered, fileValues}
-use Rattle.model.specs.Reports.{fileSize, fileCount, fileCodes, fileWords}
+use Rattle.model.specs.Reports.{standsFor, fileLength, fileSize, fileCount, fileCodes, fileWords}
 use Rattle.model.specs.Refusals.{firstMet, orElse, sizeOutside, reportsRefusal, fileRefusal}
 use Rattle.model.specs.Answers.{fileAnswer, wholeValues}
 use Rattle.model.specs.Lists.{below}
@@ -24,6 +24,7 @@ use Rattle.model.specs.CutSets.{ringCutSets}
 use Rattle.model.specs.CutText.{cutText, latestRing, printedCutSets}
 use Rattle.model.specs.ExposureText.{exposureLines, printedExposures}
 use Rattle.model.specs.Laws.Tests.{dec, dec-lt}
+use Rattle.model.specs.Laws.Reports.{stands-itself}
 use Rattle.model.specs.Laws.Refusals.{when-served, when-refused}
 use Rattle.files.specs.Served.{stretches}
 
@@ -59,60 +60,84 @@ unfolding headRefusal firstMet
 head-inside l n m h p = rw (le-ltb l 3, p)
 
 head-then-reports : (f : List ℕ)
-    → fileRefusal f ≡ orElse (headRefusal (length f) (fileSize f) (fileCount f)) (reportsRefusal (fileSize f) (fileCodes f) (fileWords f))
+    → fileRefusal f ≡ orElse (headRefusal (fileLength f) (fileSize f) (fileCount f)) (reportsRefusal (fileSize f) (fileCodes f) (fileWords f))
 unfolding headRefusal fileRefusal
 head-then-reports f = refl
 
 -- ---- the answer, by the tests that the file passed and failed
 
--- 3 bytes, and a number of buses that is served
-abbrev pub Sized : List ℕ → Type 0
-Sized f = (3 ≤ length f) × (sizeOutside (fileSize f) ≡ false)
-
 module _ (f : List ℕ) where
   -- a refusal of the head is the file's
-  head-number : (k : ℕ) → headRefusal (length f) (fileSize f) (fileCount f) ≡ k → eqb k 0 ≡ false → fileRefusal f ≡ k
+  head-number : (k : ℕ) → headRefusal (fileLength f) (fileSize f) (fileCount f) ≡ k → eqb k 0 ≡ false → fileRefusal f ≡ k
   head-number k e z = head-then-reports f ∙ rw (e, z)
 
-  head-refused : (k : ℕ) → headRefusal (length f) (fileSize f) (fileCount f) ≡ k → eqb k 0 ≡ false → Answered f (file.Refused k)
+  head-refused : (k : ℕ) → headRefusal (fileLength f) (fileSize f) (fileCount f) ≡ k → eqb k 0 ≡ false → Answered f (file.Refused k)
   unfolding fileAnswer
   head-refused k e z = answered f (file.Refused k) (rw (head-number k e z, z))
 
-  pub file-short : length f < 3 → Answered f (file.Refused 1)
-  file-short h = head-refused 1 (head-short _ _ _ h) refl
+-- ".. a ring of three": of no bytes
+pub three-buses : (f : List ℕ) → length f ≡ 0 → 3 ≡ fileSize f
+three-buses [] h = refl
+three-buses (b ∷ bs) h = absurd (omega arith)
 
-  pub file-size : 3 ≤ length f → sizeOutside (fileSize f) ≡ true → Answered f (file.Refused 2)
-  file-size l h = head-refused 2 (head-outside _ _ _ l h) refl
+-- "Byte 0 is n."
+pub first-byte : (f : List ℕ) → 0 < length f → getD f 0 0 ≡ fileSize f
+first-byte f h = rw (stands-itself f h)
 
-  pub file-count : Sized f → 4096 < fileCount f → Answered f (file.Refused 3)
-  file-count (l, a) h = head-refused 3 (head-inside _ _ _ l a ∙ rw (lt-ltb 4096 (fileCount f))) refl
+pub file-empty : (f : List ℕ) (n m : ℕ) → n ≡ fileSize f → length f ≡ 0 → m ≡ 0 → Answered f (file.Served n m)
+unfolding fileAnswer fileRefusal firstMet sizeOutside reportsRefusal
+file-empty [] n m s h e = answered [] _ (rw (s, e))
+file-empty (b ∷ bs) n m s h e = absurd (omega arith)
 
-  module _ (sized : Sized f) (few : fileCount f ≤ 4096) where
-    pub file-length : length f ≢ 3 + 2 * fileCount f → Answered f (file.Refused 4)
-    file-length h =
-        head-refused 4
-        (head-inside _ _ _ (sized .0) (sized .1) ∙ rw (le-ltb 4096 (fileCount f), ne-eqb (length f) (3 + 2 * fileCount f)))
-        refl
+-- a file of bytes has its own length ..
+own-length : (f : List ℕ) → 0 < length f → fileLength f ≡ length f
+own-length f h = ap length (stands-itself f h)
+
+pub file-short : (f : List ℕ) → 0 < length f → length f < 3 → Answered f (file.Refused 1)
+file-short f h l = head-refused f 1 (head-short _ _ _ (omega (arith, own-length f h))) refl
+
+pub file-size : (f : List ℕ) (n : ℕ) → 3 ≤ length f → n ≡ fileSize f → sizeOutside n ≡ true → Answered f (file.Refused 2)
+file-size f n l s h = head-refused f 2 (head-outside _ _ _ (omega (arith, own-length f (omega arith))) (rw (← s) h)) refl
+
+-- a file has 3 bytes, and a number n of buses that is served
+pub record Sized (f : List ℕ) (n : ℕ) : Type 0 where
+  pub three : 3 ≤ length f
+  pub size : n ≡ fileSize f
+  pub inside : sizeOutside n ≡ false
+
+-- m is the number of its reports
+module _ (f : List ℕ) (n : ℕ) (sized : Sized f n) (m : ℕ) (count : m ≡ getD f 1 0 + 256 * getD f 2 0) where
+  -- .. and its own bytes
+  own-count : m ≡ fileCount f
+  own-count = rw (stands-itself f (omega (arith, sized .three))) count
+
+  by-count : headRefusal (fileLength f) (fileSize f) (fileCount f) ≡ cond (ltb 4096 m) 3 (cond (not (eqb (length f) (3 + 2 * m))) 4 0)
+  by-count =
+      rw (own-length f (omega (arith, sized .three)), ← own-count, ← sized .size) (head-inside _ _ _ (sized .three) (sized .inside))
+
+  pub file-count : 4096 < m → Answered f (file.Refused 3)
+  file-count h = head-refused f 3 (by-count ∙ rw (lt-ltb 4096 m)) refl
+
+  module _ (few : m ≤ 4096) where
+    pub file-length : length f ≢ 3 + 2 * m → Answered f (file.Refused 4)
+    file-length h = head-refused f 4 (by-count ∙ rw (le-ltb 4096 m, ne-eqb (length f) (3 + 2 * m))) refl
 
     -- the outcome of the reports that stand in the two stretches of a whole file
     abbrev pub ReportsOf : Outcome → Type 0
-    ReportsOf o =
-        let codes = take (3 + fileCount f - 3) (drop 3 f) in
-        let words = take (length f - (3 + fileCount f)) (drop (3 + fileCount f) f) in
-        o ≡ outcomeOf (reportsRefusal (fileSize f) codes words)
+    ReportsOf o = o ≡ outcomeOf (reportsRefusal n (take (3 + m - 3) (drop 3 f)) (take (length f - (3 + m)) (drop (3 + m) f)))
 
-    module _ (whole : length f ≡ 3 + 2 * fileCount f) (o : Outcome) (is : ReportsOf o) where
+    module _ (whole : length f ≡ 3 + 2 * m) (o : Outcome) (is : ReportsOf o) where
       -- both stretches are the file's
       by-reports : o ≡ outcomeOf (fileRefusal f)
       by-reports =
-          let both = stretches f whole (fileCount f) (3 + fileCount f) refl refl in
-          let none-met : headRefusal (length f) (fileSize f) (fileCount f) ≡ 0 =
-          head-inside _ _ _ (sized .0) (sized .1) ∙ rw (le-ltb 4096 (fileCount f), eq-eqb (length f) (3 + 2 * fileCount f)) in
-          is ∙ rw (both .0, both .1, head-then-reports f, none-met)
+          let both = stretches f m (3 + m) own-count refl in
+          let none-met : headRefusal (fileLength f) (fileSize f) (fileCount f) ≡ 0 =
+          by-count ∙ rw (le-ltb 4096 m, eq-eqb (length f) (3 + 2 * m)) in
+          is ∙ rw (both .0, both .1, sized .size, head-then-reports f, none-met)
 
-      pub file-served : o ≡ outcome.Served → Answered f (file.Served (fileSize f) (fileCount f))
+      pub file-served : o ≡ outcome.Served → Answered f (file.Served n m)
       unfolding fileAnswer
-      file-served e = answered f _ (when-served _ file.Refused _ o by-reports e)
+      file-served e = rw (sized .size, own-count) (answered f _ (when-served _ file.Refused _ o by-reports e))
 
       pub file-refused : (k : ℕ) → o ≡ outcome.Refused k → Answered f (file.Refused k)
       unfolding fileAnswer
@@ -143,6 +168,12 @@ long-refused n m = go (sizeOutside n) (ltb 4096 m)
     go false true = refl
     go false false = refl
 
+-- a byte of what is read of a long file
+byte-read : (f : List ℕ) → readSize < length f → (i : ℕ) → i < 3 → getD (standsFor (take readSize f)) i 0 ≡ getD (standsFor f) i 0
+byte-read f h i l =
+    rw (stands-itself (take readSize f) (omega (arith, length-take-le readSize f (omega arith))), stands-itself f (omega arith))
+    (getD-take readSize f i 0 (omega arith))
+
 -- what a call makes of a file, served or refused
 module _ {A : Type 0} (served : List ℕ → A) (refused : ℕ → A) where
   made : List ℕ → A
@@ -150,7 +181,9 @@ module _ {A : Type 0} (served : List ℕ → A) (refused : ℕ → A) where
 
   made-long : (f : List ℕ) → longestFile < length f → made f ≡ refused (longRefusal (fileSize f) (fileCount f))
   unfolding made
-  made-long f h = rw (head-number f _ (long-head _ _ _ h) (long-refused _ _), long-refused (fileSize f) (fileCount f))
+  made-long f h =
+      let longer : longestFile < fileLength f = rw (stands-itself f (omega arith)) h in
+      rw (head-number f _ (long-head _ _ _ longer) (long-refused _ _), long-refused (fileSize f) (fileCount f))
 
   made-read : (f : List ℕ) → made (take readSize f) ≡ made f
   made-read f = go (dec-lt readSize (length f))
@@ -158,7 +191,7 @@ module _ {A : Type 0} (served : List ℕ → A) (refused : ℕ → A) where
       go : (readSize < length f) ⊎ (length f ≤ readSize) → made (take readSize f) ≡ made f
       go (inl h) =
           made-long (take readSize f) (rw (length-take-le readSize f (omega arith)) (omega arith))
-          ∙ rw (getD-take readSize f 0 0 (omega arith), getD-take readSize f 1 0 (omega arith), getD-take readSize f 2 0 (omega arith))
+          ∙ rw (byte-read f h 0 (omega arith), byte-read f h 1 (omega arith), byte-read f h 2 (omega arith))
           (sym (made-long f (omega arith)))
       go (inr h) = rw (take-all readSize f)
 

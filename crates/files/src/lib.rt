@@ -1,6 +1,7 @@
 // The checks of a whole fault file (document 01, "Fault file and reports"). Reports are counted from 0.
 ghost use mathlib.Core.Path.{_≡_};
 ghost use Rattle.model.specs.Values.{outcomeOf, fileValues};
+ghost use Rattle.model.specs.Reports.{fileSize};
 ghost use Rattle.model.specs.Refusals.{reportsRefusal};
 ghost use Rattle.model.specs.Answers.{fileAnswer, wholeValues};
 use model::FileAnswer;
@@ -25,15 +26,29 @@ fn check_reports(n: u8, codes: &[u8], words: &[u8]) -> Outcome
     Outcome::Served
 }
 
+// "Byte 0 is n.": the number of buses. "That file now stands for a ring of three" (document 02, Note 9): one of no bytes.
+pub fn bus_count(file: &[u8]) -> u8
+    ensures { λ r. ⌜ r ≡ fileSize (now (file .entry)) ⌝ }
+{
+    if file.len() == 0 {
+        return 3;
+    }
+    file[0]
+}
+
 // A whole fault file: 1, 2, 3, 4, then its reports first to last.
 pub fn check_file(file: &[u8]) -> FileAnswer
     ensures answer { λ r. ⌜ r ≡ fileAnswer (now (file .entry)) ⌝ }
     ensures values { λ r. ⌜ fileValues r ≡ wholeValues (now (file .entry)) ⌝ }
 {
+    let n = bus_count(file);
+    // ".. without reports": nothing is left to check
+    if file.len() == 0 {
+        return FileAnswer::Served(n, 0);
+    }
     if file.len() < 3 {
         return FileAnswer::Refused(1);
     }
-    let n = file[0];
     if components::size_outside(n) {
         return FileAnswer::Refused(2);
     }

@@ -1,8 +1,7 @@
 -- A ring that is told the reports of a file one after the other, and planned once, behind the last. Reports are counted from 0.
 use mathlib.Core.Path.{_≡_, refl, sym, _∙_, ap}
-use mathlib.Core.List.{List}
-use Prim.Native.Nat.{ℕ, zero, suc, _+_, _-_, _≤_}
-use native.Mathlib.Nat.{add-sub-cancel}
+use mathlib.Core.List.{List, [], _∷_}
+use Prim.Native.Nat.{ℕ, zero, suc, _+_, _-_, _≤_, _<_}
 use native.Mathlib.Numerals.{add-one}
 use native.Mathlib.Omega.{arith}
 use lib.ListN.{length, take, drop}
@@ -33,12 +32,16 @@ use Rattle.model.specs.Refusals.{fileRefusal}
 use Rattle.model.specs.Answers.{reportAt, fileAnswer}
 use Rattle.model.specs.Text.{toldAnswer, runRing}
 use Rattle.model.specs.CutText.{latestRing}
-use Rattle.files.specs.Served.{file-served, answer-refused, answer-served, stretches, counted}
+use Rattle.files.specs.Served.{file-served, own-whole, answer-refused, answer-served, stretches, counted}
 
 -- a blank ring of n told the first i reports of a file's part codes and words
 unfoldable pub toldReports : ℕ → List ℕ → List ℕ → ℕ → Ring
 toldReports n cs vs zero = blankRing n
 toldReports n cs vs (suc i) = let ring = toldReports n cs vs i in toldAnswer ring (reportAt n cs vs i)
+
+-- .. told all the reports of a file
+abbrev pub toldFile : List ℕ → Ring
+toldFile f = toldReports (fileSize f) (fileCodes f) (fileWords f) (fileCount f)
 
 -- ---- one report after the other
 
@@ -103,29 +106,37 @@ module _ (f : List ℕ) where
       let t = answer-refused f k e in
       rw (g, ne-eqb (fileRefusal f) 0 (t .0)) (ap outcome.Refused (t .1), (t .1, is ∙ ap blankRing z))
 
-  -- a file of n buses and m reports, whose part codes and words are those of its two stretches
+  -- a file of n buses and m reports
   module _ (n m : ℕ) (e : fileAnswer f ≡ file.Served n m) where
-    pub served-sizes : (smallest ≤ n) × (n ≤ largest) × (length f ≡ 3 + m + m)
-    served-sizes =
+    -- of no bytes: it is both of its stretches
+    pub told-empty : (ring : Ring) → length f ≡ 0 → ring ≡ toldReports n f f (length f) → ring ≡ toldFile f
+    told-empty ring h is = is ∙ rw (answer-served f n m e .1) (go f h)
+      where
+        go : (g : List ℕ) → length g ≡ 0 → toldReports (fileSize g) g g (length g) ≡ toldFile g
+        go [] l = refl
+        go (b ∷ bs) l = absurd (omega arith)
+
+    pub served-length : 0 < length f → length f ≡ 3 + m + m
+    served-length h =
         let (z, a, b) = answer-served f n m e in
-        let s = file-served f z in
-        (omega (arith, s .big), omega (arith, s .small), omega (arith, s .whole))
+        omega (arith, own-whole (file-served f z) h)
 
-    module _ (ring : Ring) (is : ring ≡ toldReports n (take m (drop 3 f)) (take (length f - (m + 3)) (drop (m + 3) f))
-        (length (take m (drop 3 f)))) where
-      told-all : ring ≡ toldReports (fileSize f) (fileCodes f) (fileWords f) (fileCount f)
-      told-all =
-          let (z, a, b) = answer-served f n m e in
-          let whole = file-served f z .whole in
-          let both = stretches f whole m (m + 3) b (omega arith) in
-          let codes : take m (drop 3 f) ≡ fileCodes f = rw (add-sub-cancel m 3) at (both .0) in
-          is ∙ rw (codes, both .1, counted f whole .0, a)
+    -- the part codes and words are those of its two stretches
+    pub told-stretches : (ring : Ring) → (let codes = take (3 + m - 3) (drop 3 f) in
+        ring ≡ toldReports n codes (take (length f - (3 + m)) (drop (3 + m) f)) (length codes)) → ring ≡ toldFile f
+    told-stretches ring is =
+        let (z, a, b) = answer-served f n m e in
+        let both = stretches f m (3 + m) b refl in
+        is ∙ rw (both .0, both .1, counted f (file-served f z .whole) .0, a)
 
+    module _ (ring : Ring) (is : ring ≡ toldFile f) where
       pub after-size : (smallest ≤ ring .n) × (ring .n ≤ largest)
-      after-size = rw (is, told-size n _ _ _) (served-sizes .0, served-sizes .1)
+      after-size =
+          let s = file-served f (answer-served f n m e .0) in
+          rw (is, told-size (fileSize f) _ _ _) (s .big, s .small)
 
       pub after-served : (next : Ring) → next ≡ withPlan ring → Answered f (record { outcome = outcome.Served; ring = next })
       unfolding outcomeOf latestRing
       after-served next p =
           let (z, a, b) = answer-served f n m e in
-          rw z (refl, (refl, p ∙ ap withPlan told-all ∙ run-state f (fileCount f)))
+          rw z (refl, (refl, p ∙ ap withPlan is ∙ run-state f (fileCount f)))

@@ -2,12 +2,14 @@
 ghost use mathlib.Core.Path.{_≡_};
 ghost use Prim.Native.Nat.{_≤_};
 ghost use lib.ListN.{length};
+ghost use Rattle.model.specs.declared.FileAnswer.the-variants.{Served};
 ghost use Rattle.model.specs.Values.{outcomeOf, outcomeNumber};
 ghost use Rattle.model.specs.Reports.{withPlan};
 ghost use Rattle.model.specs.Refusals.{fileRefusal};
+ghost use Rattle.model.specs.Answers.{fileAnswer};
 ghost use Rattle.model.specs.Text.{toldAnswer};
 ghost use Rattle.model.specs.CutText.{latestRing};
-ghost use Rattle.latest.specs.Told.{toldReports};
+ghost use Rattle.latest.specs.Told.{toldReports, toldFile};
 use model::FileAnswer;
 use model::LatestAnswer;
 use model::Outcome;
@@ -37,6 +39,18 @@ fn told_all(n: u8, codes: &[u8], words: &[u8]) -> Ring
     ring
 }
 
+// A blank ring of n told the m reports of a file that is served. "Each array is handed on as that stretch of the file, without a copy."; a file
+// of no bytes (document 02, Note 9) is both of its stretches.
+fn told_file(n: u8, m: usize, file: &[u8]) -> Ring
+    requires { ⌜ fileAnswer (now file) ≡ Served n m ⌝ }
+    ensures { λ r. ⌜ r ≡ toldFile (now (file .entry)) ⌝ }
+{
+    if file.len() == 0 {
+        return told_all(n, file, file);
+    }
+    told_all(n, &file[3..3 + m], &file[3 + m..])
+}
+
 // A ring with the commands that its health and locks call for.
 fn planned(ring: Ring) -> Ring
     requires { ⌜ (3 ≤ ring .n) × (ring .n ≤ 20) ⌝ }
@@ -64,7 +78,7 @@ pub fn ring_after(file: &[u8]) -> LatestAnswer
             }
         }
         FileAnswer::Served(n, m) => {
-            let told = told_all(n, &file[3..3 + m], &file[3 + m..]);
+            let told = told_file(n, m, file);
             let ring = planned(told);
             LatestAnswer {
                 outcome: Outcome::Served,

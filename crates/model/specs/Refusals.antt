@@ -18,6 +18,7 @@ use Rattle.model.specs.Plant.{PartHealth, PartCommands, smallest, larges
 use Rattle.model.specs.Choosing.{commands}
 use Rattle.model.specs.Sheet.{sheet}
 use Rattle.model.specs.Reports.{
+  fileLength,
   fileSize,
   fileCount,
   fileCodes,
@@ -154,15 +155,15 @@ reportsRefusal n [] vs = 0
 reportsRefusal n (c ∷ cs) [] = 0
 reportsRefusal n (c ∷ cs) (v ∷ vs) = let rest = reportsRefusal n cs vs in orElse (reportRefusal n c v) rest
 
--- "A file is checked 1, 2, 3, 4, then its reports first to last, each 5, 6, 7." (7: Note 3)
+-- "A file is checked 1, 2, 3, 4, then its reports first to last, each 5, 6, 7." (7: Note 3); "Refusal 1 is for one or two bytes." (Note 9)
 unfoldable pub fileRefusal : List ℕ → ℕ
 fileRefusal f =
     let reports = reportsRefusal (fileSize f) (fileCodes f) (fileWords f) in
     orElse
     (firstMet
-    ((1, ltb (length f) 3)
+    ((1, ltb (fileLength f) 3)
     ∷ (2, sizeOutside (fileSize f))
     ∷ (3, ltb 4096 (fileCount f))
-    ∷ (4, not (eqb (length f) (3 + 2 * fileCount f)))
+    ∷ (4, not (eqb (fileLength f) (3 + 2 * fileCount f)))
     ∷ []))
     reports

@@ -4,7 +4,7 @@ use mathlib.Core.List.{List, [], _∷_, map}
 use mathlib.Core.Option.{Option}
 use Prim.Native.Nat.{ℕ, zero, suc, _+_, _*_, min}
 use lib.Dec.{eqb}
-use lib.ListN.{getD, take, drop}
+use lib.ListN.{length, getD, take, drop}
 use Rattle.model.specs.declared.Part.{Part}
 use Rattle.model.specs.declared.Part.the-variants.{Generator, GeneratorBreaker, BusBreaker}
 use Rattle.model.specs.declared.Word.{Word}
@@ -19,21 +19,30 @@ use Rattle.model.specs.Values.{partCode, samePart, wordNumber}
 use Rattle.model.specs.Plant.{PartHealth, PartCommands, largest, generator, generatorBreaker, busBreaker, parts, allOff}
 use Rattle.model.specs.Choosing.{commands, choices}
 
+-- "That file now stands for a ring of three without reports and prints what `3 0 0` prints." (document 02, Note 9): the bytes a file stands for
+abbrev pub standsFor : List ℕ → List ℕ
+standsFor [] = 3 ∷ 0 ∷ 0 ∷ []
+standsFor (b ∷ bs) = b ∷ bs
+
+-- "file length"
+abbrev pub fileLength : List ℕ → ℕ
+fileLength f = length (standsFor f)
+
 -- "Byte 0 is n."
 abbrev pub fileSize : List ℕ → ℕ
-fileSize f = getD f 0 0
+fileSize f = getD (standsFor f) 0 0
 
 -- "Bytes 1 and 2 are the number m of reports, low byte first"
 abbrev pub fileCount : List ℕ → ℕ
-fileCount f = getD f 1 0 + 256 * getD f 2 0
+fileCount f = getD (standsFor f) 1 0 + 256 * getD (standsFor f) 2 0
 
 -- "Two arrays follow: m part codes from byte 3 .."
 abbrev pub fileCodes : List ℕ → List ℕ
-fileCodes f = take (fileCount f) (drop 3 f)
+fileCodes f = take (fileCount f) (drop 3 (standsFor f))
 
 -- ".. then m words."
 abbrev pub fileWords : List ℕ → List ℕ
-fileWords f = drop (3 + fileCount f) f
+fileWords f = drop (3 + fileCount f) (standsFor f)
 
 -- the part of a ring of n that a code names; a ring has at most 20 of each kind
 unfoldable pub partNamed : ℕ → ℕ → Option Part

@@ -2,7 +2,6 @@
 // call, a line for the ring after the word and before the first operation, and a line after each operation of both phases.
 ghost use Prim.Native.Nat.{_≤_};
 use libc::STDERR_FILENO;
-use libc::STDIN_FILENO;
 use libc::STDOUT_FILENO;
 use model::BusFeed;
 use model::Commands;
@@ -231,8 +230,11 @@ fn print_refused(k: u8) -> bool {
         && io::write_all(STDOUT_FILENO, b"\n")
 }
 
-// A file with m reports: the part codes from byte 3, then the words.
+// A file with m reports: the part codes from byte 3, then the words. One of no bytes (document 02, Note 9) is both of its stretches.
 fn print_file(n: u8, m: usize, file: &[u8]) -> bool {
+    if file.len() == 0 {
+        return print_served(n, file, file);
+    }
     if file.len() < 3 {
         return false;
     }
@@ -253,7 +255,12 @@ fn print_trace(file: &[u8]) -> bool {
 fn main() {
     // The longest file has 8,195 bytes: one byte more tells that a file is too long.
     let mut file = [0u8; 8196];
-    let size = io::read_full(STDIN_FILENO, &mut file);
+    let input = reading::read_file(&mut file);
+    if input.failed {
+        io::write_all(STDERR_FILENO, b"ringtrace: standard input cannot be read\n");
+        return;
+    }
+    let size = input.size;
     if !print_trace(&file[..size]) {
         io::write_all(
             STDERR_FILENO,

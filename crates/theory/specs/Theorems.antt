@@ -13,3 +13,4 @@ pub mod CutSets
 pub mod Exposure
 pub mod Recipe
 pub mod Numbers
+pub mod EmptyFile

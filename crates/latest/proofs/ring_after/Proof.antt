@@ -1,12 +1,11 @@
--- `latest::ring_after`: a file is refused or served, as its answer says; a served file has the length that its count says.
+-- `latest::ring_after`: a file is refused or served, as its answer says.
 use mathlib.Core.Path.{_≡_, sym, _∙_}
-use native.Mathlib.Nat.{add-comm, add-sub-cancel}
 use native.Mathlib.Omega.{arith}
 use denote.Ref.{now}
 use borrow.Author.Needs.{needs}
 use Rattle.model.specs.declared.FileAnswer.the-variants.{Served}
 use Rattle.model.specs.Answers.{fileAnswer}
-use Rattle.latest.specs.Told.{after-refused, served-sizes, after-size, after-served}
+use Rattle.latest.specs.Told.{after-refused, after-size, after-served}
 use Rattle.latest.proofs.ring_after.Statement.{statement}
 use Rattle.latest.proofs.ring_after.Tie as tie
 
@@ -15,11 +14,8 @@ answered : (d : tie.After-known-told2)
     → let g = d .before .n .given .0 in fileAnswer (now (d .before .before .before .before .before .args .file)) ≡ Served (g .0) (g .1 .0)
 answered d = sym (d .before .before .before .check-file .ensures .0) ∙ d .before .n .given .1
 
--- the sums of both stretches are brought into one order
 planned-requires : tie.Need-planned-requires
-planned-requires c κs =
-    after-size _ _ _ (answered (c .before .before .before)) _
-    (simp (add-comm 3, add-sub-cancel) at (c .told-all .ensures))
+planned-requires c κs = after-size _ _ _ (answered (c .before)) _ (c .told-file .ensures)
 
 returns : tie.Need-returns
 returns c =
@@ -30,8 +26,7 @@ returns c =
 returns-2 : tie.Need-returns-2
 returns-2 c =
     let d = c .before in
-    after-served _ _ _ (answered (d .before .before .before)) _
-    (simp (add-comm 3, add-sub-cancel) at (d .told-all .ensures)) _ (c .planned .ensures)
+    after-served _ _ _ (answered (d .before)) _ (d .told-file .ensures) _ (c .planned .ensures)
 
 pub ring-after-spec : {M : Type 1} → statement M
 ring-after-spec =
@@ -41,15 +36,7 @@ ring-after-spec =
     (λ c. search needs)
     (λ c κs. search needs)
     (λ c. search needs)
-    (λ c. omega (arith, served-sizes _ _ _ (answered c)))
-    (λ c. search needs)
-    (λ c. search needs)
-    (λ c. omega (arith, served-sizes _ _ _ (answered c)))
-    (λ c. omega (arith, served-sizes _ _ _ (answered (c .before))))
-    (λ c. omega (arith, served-sizes _ _ _ (answered (c .before))))
-    (λ c. omega (arith, served-sizes _ _ _ (answered (c .before))))
-    (λ c. search needs)
-    (λ c κs. search needs)
+    (λ c κs. answered c)
     planned-requires
     returns
     returns-2)

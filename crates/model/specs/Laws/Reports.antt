@@ -1,11 +1,13 @@
--- Laws of codes, words and reports: reading a code undoes writing it; a report is read or refused.
+-- Laws of files, codes, words and reports: what a file stands for; reading a code undoes writing it; a report is read or refused.
 use mathlib.Core.Path.{_≡_, refl}
 use mathlib.Core.Bool.{cond}
 use mathlib.Core.Logic.{_⊎_, inl, inr, _≢_}
+use mathlib.Core.List.{List, [], _∷_}
 use mathlib.Core.Option.{Option, none, some}
-use Prim.Native.Nat.{ℕ, _≤_, min}
+use Prim.Native.Nat.{ℕ, _+_, _≤_, _<_, min}
 use native.Mathlib.Omega.{arith}
 use lib.Dec.{eqb}
+use lib.ListN.{length, take, drop}
 use borrow.Author.Tests.{eqb-true, eq-eqb, ne-eqb}
 use Rattle.model.specs.declared.Part.{Part}
 use Rattle.model.specs.declared.Word.{Word}
@@ -14,11 +16,21 @@ use Rattle.model.specs.declared.ReportAnswer.{ReportAnswer}
 use Rattle.model.specs.declared.ReportAnswer.the-variants.{Read, Refused}
 use Rattle.model.specs.Values.{partCode}
 use Rattle.model.specs.Plant.{largest, parts, InRing}
-use Rattle.model.specs.Reports.{partNamed, wordNamed}
+use Rattle.model.specs.Reports.{standsFor, fileCount, fileCodes, fileWords, partNamed, wordNamed}
 use Rattle.model.specs.Refusals.{firstMet, reportConditions, reportOf, reportAnswer}
 use Rattle.model.specs.Laws.Tests.{dec-eq}
 use Rattle.model.specs.Laws.Lists.{first-only, first-at}
 use Rattle.model.specs.Laws.Parts.{parts-in, parts-at, code-only}
+
+-- a file that has a byte stands for itself
+pub stands-itself : (f : List ℕ) → 0 < length f → standsFor f ≡ f
+stands-itself [] h = absurd (omega arith)
+stands-itself (b ∷ bs) h = refl
+
+-- "Each array is handed on as that stretch of the file": of what was read, also of no bytes
+pub stretches-read : (f : List ℕ) → (fileCodes f ≡ take (fileCount f) (drop 3 f)) × (fileWords f ≡ drop (3 + fileCount f) f)
+stretches-read [] = (refl, refl)
+stretches-read (b ∷ bs) = (refl, refl)
 
 in-least : (n : ℕ) (p : Part) → n ≤ largest → InRing n p → InRing (min n largest) p
 in-least n p h r = (r .0, omega (arith, r .1))

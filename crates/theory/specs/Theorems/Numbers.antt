@@ -38,6 +38,7 @@ use Rattle.model.specs.Plant.{parts, healthOfKind, next, up, arc, connected}
 use Rattle.model.specs.Priority.{others, sources, pathBusBreakers, pathBreakers, pathParts, highRises, pathsFrom, paths}
 use Rattle.model.specs.Choosing.{onPaths, usable, countedClosed, isolated, permitted, choose, addPath, chosen, choiceOf, plan, commands, choices}
 use Rattle.model.specs.Reports.{
+  fileLength,
   fileSize,
   fileCount,
   fileCodes,
@@ -187,102 +188,109 @@ use Rattle.theory.specs.Theorems.Exposure.{rated}
 served : _≢_ {A = ℕ} 0 7
 served z = omega arith
 
--- a condition of number j before others
-more : (met : Bool) (j k : ℕ) → not (eqb j 7) ≡ true → k ≢ 7 → cond met j k ≢ 7
-more true j k e p = λ z. contra e (ap not (eq-eqb j 7 z))
-more false j k e p = p
+module _ (k : ℕ) where
+  -- a condition of number i before others
+  pub more : (met : Bool) (i j : ℕ) → not (eqb i k) ≡ true → j ≢ k → cond met i j ≢ k
+  more true i j e p = λ z. contra e (ap not (eq-eqb i k z))
+  more false i j e p = p
 
-or-never : (j k : ℕ) → j ≢ 7 → k ≢ 7 → orElse j k ≢ 7
-or-never j k p q = by-cond (λ i. i ≢ 7) (eqb j 0) (λ t. q) (λ t. p)
+  pub or-never : (i j : ℕ) → i ≢ k → j ≢ k → orElse i j ≢ k
+  or-never i j p q = by-cond (λ l. l ≢ k) (eqb i 0) (λ t. q) (λ t. p)
+
+  -- ---- a number that no report has: not 0, 5 or 6
+
+  module _ (zero : not (eqb 0 k) ≡ true) (five : not (eqb 5 k) ≡ true) (six : not (eqb 6 k) ≡ true) where
+    none-never : 0 ≢ k
+    none-never = more true 0 (suc k) zero (λ z. omega arith)
+
+    report-never : (n : ℕ) (r : Report) → firstMet (reportConditions n r) ≢ k
+    unfolding reportConditions firstMet
+    report-never n r = more (notOfRing n (r .part)) 5 _ five (more (wordOfOtherKind (r .part) _) 6 _ six none-never)
+
+    -- a report by its code and its word
+    read-never : (n : ℕ) (o : Option Part) (u : Option Word) → reportValues (reportOf n o u) .0 ≢ k
+    unfolding reportOf
+    read-never n none u = more true 5 (suc k) five (λ z. omega arith)
+    read-never n (some p) none = more true 6 (suc k) six (λ z. omega arith)
+    read-never n (some p) (some w) =
+        let r : Report = record { part = p; word = w } in
+        by-cond (λ a. reportValues a .0 ≢ k) (eqb (firstMet (reportConditions n r)) 0) (λ t. none-never) (λ t. report-never n r)
+
+    pub reports-never : (n : ℕ) (cs vs : List ℕ) → reportsRefusal n cs vs ≢ k
+    unfolding reportsRefusal reportRefusal reportAnswer
+    reports-never n [] vs = none-never
+    reports-never n (c ∷ cs) [] = none-never
+    reports-never n (c ∷ cs) (v ∷ vs) = or-never _ _ (read-never n (partNamed n c) (wordNamed v)) (reports-never n cs vs)
 
 -- ---- the refusals
-
-report-never : (n : ℕ) (r : Report) → firstMet (reportConditions n r) ≢ 7
-unfolding reportConditions firstMet
-report-never n r = more (notOfRing n (r .part)) 5 _ refl (more (wordOfOtherKind (r .part) _) 6 _ refl served)
-
--- a report by its code and its word
-read-never : (n : ℕ) (o : Option Part) (u : Option Word) → reportValues (reportOf n o u) .0 ≢ 7
-unfolding reportOf
-read-never n none u = λ z. omega arith
-read-never n (some p) none = λ z. omega arith
-read-never n (some p) (some w) =
-    let r : Report = record { part = p; word = w } in
-    by-cond (λ a. reportValues a .0 ≢ 7) (eqb (firstMet (reportConditions n r)) 0) (λ t. served) (λ t. report-never n r)
-
-reports-never : (n : ℕ) (cs vs : List ℕ) → reportsRefusal n cs vs ≢ 7
-unfolding reportsRefusal reportRefusal reportAnswer
-reports-never n [] vs = served
-reports-never n (c ∷ cs) [] = served
-reports-never n (c ∷ cs) (v ∷ vs) = or-never _ _ (read-never n (partNamed n c) (wordNamed v)) (reports-never n cs vs)
 
 file-never : (f : List ℕ) → fileRefusal f ≢ 7
 unfolding fileRefusal firstMet
 file-never f =
-    or-never _ _
-    (more (ltb (length f) 3) 1 _ refl
-    (more (sizeOutside (fileSize f)) 2 _ refl
-    (more (ltb 4096 (fileCount f)) 3 _ refl (more (not (eqb (length f) _)) 4 _ refl served))))
-    (reports-never (fileSize f) (fileCodes f) (fileWords f))
+    or-never 7 _ _
+    (more 7 (ltb (fileLength f) 3) 1 _ refl
+    (more 7 (sizeOutside (fileSize f)) 2 _ refl
+    (more 7 (ltb 4096 (fileCount f)) 3 _ refl (more 7 (not (eqb (fileLength f) _)) 4 _ refl served))))
+    (reports-never 7 refl refl refl (fileSize f) (fileCodes f) (fileWords f))
 
 sheet-never : (room : ℕ) (bytes : List ℕ) → sheetRefusal room bytes ≢ 7
 unfolding sheetRefusal firstMet
-sheet-never room bytes = more (tooShort room bytes) 8 _ refl served
+sheet-never room bytes = more 7 (tooShort room bytes) 8 _ refl served
 
 first-never : (n : ℕ) (rs : List Report) → firstRefusal n rs ≢ 7
 unfolding firstRefusal
 first-never n [] = served
-first-never n (r ∷ rs) = or-never _ _ (report-never n r) (first-never n rs)
+first-never n (r ∷ rs) = or-never 7 _ _ (report-never 7 refl refl refl n r) (first-never n rs)
 
 start-never : (n room : ℕ) → startRefusal n room ≢ 7
 unfolding startRefusal firstMet
-start-never n room = more (sizeOutside n) 2 _ refl (more (tooShort room _) 8 _ refl served)
+start-never n room = more 7 (sizeOutside n) 2 _ refl (more 7 (tooShort room _) 8 _ refl served)
 
 step-never : (ring : Ring) (r : Report) (room : ℕ) → stepRefusal ring r room ≢ 7
 unfolding stepRefusal reportConditions firstMet
 step-never ring r room =
-    more (badRing ring) 9 _ refl
-    (more (notOfRing (ring .n) (r .part)) 5 _ refl
-    (more (wordOfOtherKind (r .part) _) 6 _ refl (more (tooShort room _) 8 _ refl served)))
+    more 7 (badRing ring) 9 _ refl
+    (more 7 (notOfRing (ring .n) (r .part)) 5 _ refl
+    (more 7 (wordOfOtherKind (r .part) _) 6 _ refl (more 7 (tooShort room _) 8 _ refl served)))
 
 scan-never : (ring : Ring) (s : Scan) (room : ℕ) → scanRefusal ring s room ≢ 7
 unfolding scanRefusal firstMet
 scan-never ring s room =
-    or-never _ _ (more (badRing ring) 9 _ refl (more (countAbove (s .count)) 11 _ refl served))
-    (or-never _ _ (first-never (ring .n) (scanReports s)) (sheet-never room _))
+    or-never 7 _ _ (more 7 (badRing ring) 9 _ refl (more 7 (countAbove (s .count)) 11 _ refl served))
+    (or-never 7 _ _ (first-never (ring .n) (scanReports s)) (sheet-never room _))
 
 feeds-never : (n : ℕ) (h : Health) → feedsRefusal n (healthOf h) ≢ 7
 unfolding feedsRefusal firstMet
-feeds-never n h = more (sizeOutside n) 2 _ refl (more (healthOutside (healthOf h) _) 9 _ refl served)
+feeds-never n h = more 7 (sizeOutside n) 2 _ refl (more 7 (healthOutside (healthOf h) _) 9 _ refl served)
 
 list-never : (state : RingState) (bus room : ℕ) → cutSetsRefusal state bus room ≢ 7
 unfolding cutSetsRefusal firstMet
 list-never state bus room =
-    more (badRecord state) 9 _ refl (more (busOutside (state .ring .n) bus) 10 _ refl (more (tooShort room _) 8 _ refl served))
+    more 7 (badRecord state) 9 _ refl (more 7 (busOutside (state .ring .n) bus) 10 _ refl (more 7 (tooShort room _) 8 _ refl served))
 
 exposure-never : (state : RingState) (bus : ℕ) (r : Rates) → exposureRefusal state bus r ≢ 7
 unfolding exposureRefusal firstMet
 exposure-never state bus r =
-    more (badRecord state) 9 _ refl
-    (more (busOutside (state .ring .n) bus) 10 _ refl
-    (more (someOutside (state .ring .n) r) 15 _ refl (more (unratedListed r _) 16 _ refl served)))
+    more 7 (badRecord state) 9 _ refl
+    (more 7 (busOutside (state .ring .n) bus) 10 _ refl
+    (more 7 (someOutside (state .ring .n) r) 15 _ refl (more 7 (unratedListed r _) 16 _ refl served)))
 
 -- 9 of a ring state, then what else is refused
 state-never : (state : RingState) (k : ℕ) → k ≢ 7 → stateRefusal state k ≢ 7
 unfolding stateRefusal firstMet
-state-never state k p = or-never _ k (more (badRecord state) 9 _ refl served) p
+state-never state k p = or-never 7 _ k (more 7 (badRecord state) 9 _ refl served) p
 
 book-never : (state : RingState) (b : Booking) → bookRefusal state b ≢ 7
 unfolding bookRefusal firstMet
 book-never state b =
-    more (badRecord state) 9 _ refl
-    (more (busOutside (state .ring .n) (b .bus)) 10 _ refl
-    (more (wattsOutside (b .watts)) 12 _ refl
-    (more (isLive (liveBookings (state .load)) (b .number)) 13 _ refl (more (noPlace (state .load)) 14 _ refl served))))
+    more 7 (badRecord state) 9 _ refl
+    (more 7 (busOutside (state .ring .n) (b .bus)) 10 _ refl
+    (more 7 (wattsOutside (b .watts)) 12 _ refl
+    (more 7 (isLive (liveBookings (state .load)) (b .number)) 13 _ refl (more 7 (noPlace (state .load)) 14 _ refl served))))
 
 cancel-never : (state : RingState) (v : ℕ) → cancelRefusal state v ≢ 7
 unfolding cancelRefusal firstMet
-cancel-never state v = more (badRecord state) 9 _ refl (more (not (isLive (liveBookings (state .load)) v)) 13 _ refl served)
+cancel-never state v = more 7 (badRecord state) 9 _ refl (more 7 (not (isLive (liveBookings (state .load)) v)) 13 _ refl served)
 
 -- ---- the answers
 
@@ -321,7 +329,7 @@ unfolding reportAt reportAnswer
 at-never n cs vs i = go (ltb i (length cs) && ltb i (length vs))
   where
     go : (within : Bool) → reportValues (cond within (reportAnswer n (getD cs i 0) (getD vs i 0)) Missing) .0 ≢ 7
-    go true = read-never n (partNamed n (getD cs i 0)) (wordNamed (getD vs i 0))
+    go true = read-never 7 refl refl refl n (partNamed n (getD cs i 0)) (wordNamed (getD vs i 0))
     go false = served
 
 feeds-answer-never : (n : ℕ) (h : Health) (c : Commands) → outcomeNumber (feedsAnswer n h c .outcome) ≢ 7
@@ -453,7 +461,7 @@ never-seven = record {
   part-of = λ n code. named-never (partNamed n code);
   word-of = λ byte. word-never (wordNamed byte);
   report-at = at-never;
-  check-report = λ n r. outcome-never _ (report-never n r);
+  check-report = λ n r. outcome-never _ (report-never 7 refl refl refl n r);
   feeds = feeds-answer-never;
   start = λ n buffer. by-never _ (unloaded (blankRing n)) (unloaded (blankRing 0)) buffer (start-never n (length buffer));
   step = λ state r buffer.
