@@ -52,8 +52,8 @@ import ringsim as rs  # noqa: E402
 CRATES = os.path.join(HERE, "..", "crates")
 KINDS = (rs.GENERATOR, rs.GENERATOR_BREAKER, rs.BUS_BREAKER)
 
-# The rules that are built: document 01's with Notes 3 to 7 of document 02. Notes 1 and 2 add calls, and have no switch.
-RULES = rs.Rules(note3=True, note4=True, note5=True, note6=True, note7=True)
+# The rules that are built: document 01's with Notes 3 to 7 and 9 of document 02. Notes 1, 2 and 8 add calls, and have no switch.
+RULES = rs.Rules(note3=True, note4=True, note5=True, note6=True, note7=True, note9=True)
 
 
 def under(rules, *modules):
@@ -76,7 +76,7 @@ def examples():
     """The files of document 01: its examples, edges and settled positions, starred and not."""
     yield from (bytes(b) for b in (
         [3, 0], [2, 0, 0], [3, 1, 16], [3, 1, 0, 64], [3, 1, 0, 3, 1], [3, 1, 0, 64, 1], [3, 1, 0, 0, 0],
-        [3, 1, 0, 65, 2], [3, 0, 0], [], [3], [20, 0, 0], [21, 0, 0], [0, 0, 0], [255, 0, 0], [3, 0, 16], [3, 0, 0, 0],
+        [3, 1, 0, 65, 2], [3, 0, 0], [20, 0, 0], [21, 0, 0], [0, 0, 0], [255, 0, 0], [3, 0, 16], [3, 0, 0, 0],
         [3, 1, 0, 64, 3], [3, 2, 0, 64, 3, 64, 0], [3, 1, 0, 64, 4], [3, 1, 0, 0, 2], [3, 1, 0, 0, 3], [3, 1, 0, 32, 1],
         [3, 1, 0, 35, 2], [3, 1, 0, 67, 2], [3, 1, 0, 31, 1], [3, 1, 0, 63, 2], [3, 1, 0, 84, 2], [3, 1, 0, 255, 255],
         [20, 1, 0, 19, 1], [20, 1, 0, 20, 1], [20, 1, 0, 51, 2], [20, 1, 0, 52, 2], [20, 1, 0, 83, 3], [20, 1, 0, 84, 3],
@@ -86,6 +86,13 @@ def examples():
         yield fault_file(3, faults)
     for n in range(3, 21):
         yield fault_file(n, [])
+
+
+def short_files():
+    """What Note 9 of document 02 speaks of: "a file of no bytes", and "one or two bytes", whatever they are."""
+    yield b""
+    yield from (bytes([byte]) for byte in (0, 1, 2, 3, 4, 20, 21, 255))
+    yield from (bytes(pair) for pair in itertools.product((0, 1, 3, 20, 255), (0, 1, 16, 255)))
 
 
 def single_and_double_faults():
@@ -237,8 +244,8 @@ def random_files(rng, count):
 
 
 def runs(rng):
-    for data in itertools.chain(examples(), single_and_double_faults(), returned_generators(), locked_generators(), outward_files(),
-                                long_files(rng), random_files(rng, 250)):
+    for data in itertools.chain(examples(), short_files(), single_and_double_faults(), returned_generators(), locked_generators(),
+                                outward_files(), long_files(rng), random_files(rng, 250)):
         text = sim.printed_run(data)
         yield len(data).to_bytes(2, "little") + data + text + b"\0"
 

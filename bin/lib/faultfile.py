@@ -8,6 +8,8 @@ The first line is `ring N`, each further one a part and a word: `BB2 stuck open`
 for a generator that was replaced. `G1 locked` locks a generator out for service, and `G1 unlocked` ends that; neither alters
 whether it is fit or stuck off. Parts are numbered from 1 to N. What follows a # is passed over; case, spaces and empty lines
 do not matter. A byte that has no name is a number, as `code 99 word 7`, and a file of another shape is `bytes 3 1 0 64`.
+A file of no bytes stands for a ring of three without reports: decode shows `ring 3`, which makes the file `3 0 0` with the same
+run. The line `bytes` by itself makes one of no bytes.
 Status: 0 done, and served for check; 1 refused, by check alone; 2 nothing could be read or written.
 """
 import faultlines

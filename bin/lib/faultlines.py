@@ -2,8 +2,9 @@
 
 A part is its kind and number, as G1, GB3 or BB2; numbers go from 1 to 20, and no further than the ring's size. Words are those
 of WORDS. Where a byte has no name it is written as a number: `code 99 word 7`; a file that has not the shape of a fault file is
-written as `bytes 3 1 0 64`. What follows a # is passed over, so are empty lines, and case, spaces and tabs do not matter. Between
-lines `scan` and `end`, which bin/ringscan takes, stand reports that are handed over at once.
+written as `bytes 3 1 0 64`. A file of no bytes stands for a ring of three without reports; the line `bytes` by itself makes one.
+What follows a # is passed over, so are empty lines, and case, spaces and tabs do not matter. Between lines `scan` and `end`, which
+bin/ringscan takes, stand reports that are handed over at once.
 """
 import re
 
@@ -186,13 +187,40 @@ def fault_file(data):
     return encode(data) if is_readable(data) else data
 
 
+# ---- what a file of no bytes stands for
+
+NO_BYTES = "no bytes: this file stands for a ring of three without reports"
+
+
+def stands_for(file):
+    """The bytes by which a fault file is read: its own, or where it has none those of a ring of three without reports."""
+    return file or bytes((3, 0, 0))
+
+
+def ring_size(file):
+    """The number of buses that a fault file calls for."""
+    return stands_for(file)[0]
+
+
+def count_of(file):
+    """The number of reports that a fault file calls for."""
+    _, low, high = stands_for(file)[:3]
+    return low + 256 * high
+
+
+def remark_on(file, before=""):
+    """A line on what a file of no bytes stands for; none on any other."""
+    return [] if file else [before + NO_BYTES]
+
+
 # ---- what the controller refuses
 
-def file_refusal(data):
+def file_refusal(file):
     """Refusals 1 to 4 and their reason, in the controller's order; 0 for a file of the right shape."""
+    data = stands_for(file)
     if len(data) < 3:
-        return 1, "a fault file has at least 3 bytes, this one %d" % len(data)
-    size, count = data[0], data[1] + 256 * data[2]
+        return 1, "a fault file has no bytes or at least 3, this one %d" % len(data)
+    size, count = ring_size(data), count_of(data)
     if not 3 <= size <= MOST:
         return 2, "a ring has from 3 to %d buses, not %d" % (MOST, size)
     if count > MOST_REPORTS:
@@ -220,14 +248,15 @@ def report_refusal(size, code, word):
     return 6, reason + ("; locks are for generators" if WORDS[word] in LOCK_WORDS else "")
 
 
-def shaped(data):
+def shaped(file):
     """Whether the bytes have the shape of a fault file, whatever they say."""
-    return len(data) >= 3 and len(data) == 3 + 2 * (data[1] + 256 * data[2])
+    data = stands_for(file)
+    return len(data) >= 3 and len(data) == 3 + 2 * count_of(data)
 
 
-def reports_of(data):
+def reports_of(file):
     """The codes and words of a file of the right shape."""
-    count = data[1] + 256 * data[2]
+    data, count = stands_for(file), count_of(file)
     return list(zip(data[3:3 + count], data[3 + count:]))
 
 
@@ -240,16 +269,18 @@ def report_text(size, code, word):
 
 
 def decode(data):
-    """A fault file as lines that `encode` takes back, whatever its bytes."""
+    """A fault file as lines that `encode` takes back, whatever its bytes. One that has none is shown as what it stands for, so that a user
+    can go on with it."""
     number, reason = file_refusal(data)
-    remark = ["# refused %d: %s" % (number, reason)] if number else []
+    remark = ["# refused %d: %s" % (number, reason)] if number else remark_on(data, "# ")
     if not shaped(data):
-        rows = [data[i:i + 16] for i in range(0, len(data), 16)] or [b""]
+        rows = [data[i:i + 16] for i in range(0, len(data), 16)]
         return "\n".join(remark + [" ".join(["bytes"] + [str(byte) for byte in row]) for row in rows]) + "\n"
-    lines = ["ring %d" % data[0]]
+    size = ring_size(data)
+    lines = ["ring %d" % size]
     for code, word in reports_of(data):
-        refusal, why = report_refusal(data[0], code, word)
-        lines.append(report_text(data[0], code, word) + ("    # refused %d: %s" % (refusal, why) if refusal else ""))
+        refusal, why = report_refusal(size, code, word)
+        lines.append(report_text(size, code, word) + ("    # refused %d: %s" % (refusal, why) if refusal else ""))
     return "\n".join(remark + lines) + "\n"
 
 
@@ -262,22 +293,22 @@ def labelled_file(data):
         return joined(size_of(lines), reports), [str(line) for line in lines[1:]]
     file = fault_file(data)
     reports = reports_of(file) if shaped(file) else []
-    return file, ["report %d: %s" % (i, report_text(file[0], *report)) for i, report in enumerate(reports, start=1)]
+    return file, ["report %d: %s" % (i, report_text(ring_size(file), *report)) for i, report in enumerate(reports, start=1)]
 
 
 def check(data):
-    """What the controller would refuse in a fault file or in readable lines, a line each, and the number of its answer, 0 where it
-    serves."""
+    """What the controller would refuse in a fault file or in readable lines, a line each, or what a file of no bytes stands for; and the
+    number of its answer, 0 where it serves."""
     file, labels = labelled_file(data)
     number, reason = file_refusal(file)
     if number:
         return ["refused %d, %s" % (number, reason)], number
     found = []
     for label, (code, word) in zip(labels, reports_of(file)):
-        refusal, reason = report_refusal(file[0], code, word)
+        refusal, reason = report_refusal(ring_size(file), code, word)
         if refusal:
             found.append((refusal, "%s: refused %d, %s" % (label, refusal, reason)))
-    return [line for _, line in found], found[0][0] if found else 0
+    return remark_on(file) + [line for _, line in found], found[0][0] if found else 0
 
 
 # ---- the plant: health, locks and orders
@@ -449,7 +480,7 @@ def scans_of(data):
         return None
     calls = [Call(label).add(label, report) for label, report in zip(labels, reports_of(file))]
     read_lines(calls, lambda call: scanned(*call.reports[0]))
-    return file[0], calls
+    return ring_size(file), calls
 
 
 def together(calls):

@@ -16,7 +16,8 @@ A bus has the sum over its sets of further faults, those of bin/ringcuts, of eac
 many sets there are. A bus that is dark already has the empty set, and 1.0. Figures have as many digits as tell the float from any other.
 A bus may be refused: by 15 where a chance is not from 0 to 1, or hours are not finite or below 1, of any part of the ring; by 16 where
 a part in one of its sets is unrated. The lines and the parts are named on standard error.
-FILE has readable lines where it begins with `ring ` or `#`, every other goes to the program as it is.
+FILE has readable lines where it begins with `ring ` or `#`, every other goes to the program as it is; one of no bytes stands for a ring of
+three without reports.
 Status: 0 all served, 1 something refused, 2 nothing could be read or written.
 """
 import math
@@ -166,7 +167,7 @@ def run(arguments):
         return status
     lines = output.decode().splitlines()
     ringtools.write_output(output if options else laid_out(lines).encode())
-    explain(place, rates, file[0], lines)
+    explain(place, rates, faultlines.ring_size(file), lines)
     return ringtools.REFUSED if any(" refused " in line for line in lines) else ringtools.SERVED
 
 

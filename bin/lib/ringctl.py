@@ -4,7 +4,8 @@
     bin/ringctl --changes FILE                      after line 0 only the buses that change
     bin/ringctl < FILE                              from standard input
 
-A file that begins with `ring ` or `#` has readable lines, every other goes to the controller as it is.
+A file that begins with `ring ` or `#` has readable lines, every other goes to the controller as it is; one of no bytes stands
+for a ring of three without reports.
 Status: 0 served, 1 refused, 2 nothing could be read or written.
 """
 import faultlines

@@ -8,7 +8,8 @@
 A bus has a line with the number of its sets, as `B3 10`, then a line a set: `G3 BB2 BB3` darkens the bus when G3 goes off and BB2
 and BB3 stick open, and no fewer of the three do. Sets have at most three parts; those of one part come first. A generator that is
 stuck off or locked is in no set. A lone `-` is the empty set: the bus is dark already.
-A file that begins with `ring ` or `#` has readable lines, every other goes to the program as it is.
+A file that begins with `ring ` or `#` has readable lines, every other goes to the program as it is; one of no bytes stands for a
+ring of three without reports.
 Status: 0 served, 1 refused, 2 nothing could be read or written.
 """
 import re

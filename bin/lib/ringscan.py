@@ -19,7 +19,7 @@ from the orders before it to those after its last report; without reports they a
 the number, 5 or 6 by its first bad report, 11 for more than 64 reports, and changes nothing; the line and the reason are said on
 standard error, and the next call goes on from there.
 A file that begins with `ring ` or `#` has readable lines. Every other is a fault file, and each of its reports stands by itself; one of
-another shape is refused whole, as by bin/ringctl.
+another shape is refused whole, as by bin/ringctl, and one of no bytes stands for a ring of three without reports.
 Status: 0 all served, 1 something refused, 2 nothing could be read or written.
 """
 import faultlines

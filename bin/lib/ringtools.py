@@ -121,7 +121,7 @@ def read_some(number, most):
 
 
 def is_readable(data):
-    """Whether these are readable lines. No served fault file begins so: its first byte is from 3 to 20."""
+    """Whether these are readable lines. No served fault file begins so: its first byte, where it has one, is from 3 to 20."""
     return data.startswith(b"ring ") or data.startswith(b"#")
 
 

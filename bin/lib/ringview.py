@@ -1,7 +1,8 @@
 """bin/ringview [FILE] > ring.html: a fault file's run as a page to look at, stroke by stroke, in any browser.
 
-The file is a fault file or readable lines, as for bin/ringctl. The page needs no network. What feeds each bus after every
-stroke is reckoned by the proved plant reckoning (target/bin/ringtrace); the page reckons nothing.
+The file is a fault file or readable lines, as for bin/ringctl; one of no bytes stands for a ring of three without reports. The
+page needs no network. What feeds each bus after every stroke is reckoned by the proved plant reckoning (target/bin/ringtrace);
+the page reckons nothing.
 Status: 0 served, 1 refused (and no page), 2 nothing could be read or written.
 """
 import html
@@ -17,7 +18,8 @@ LIB = os.path.dirname(os.path.realpath(__file__))
 def calls_of(data, run, trace):
     """The start and the reports in the words of the page: the report, the line of the run, the strokes, and what feeds the buses
     before the first stroke and after each."""
-    reports = [""] + [faultlines.report_text(data[0], code, word) for code, word in faultlines.reports_of(data)]
+    size = faultlines.ring_size(data)
+    reports = [""] + [faultlines.report_text(size, code, word) for code, word in faultlines.reports_of(data)]
     calls = [{"report": report, "line": line, "strokes": [], "feeds": []} for report, line in zip(reports, run[1:])]
     at = -1
     for line in trace[1:]:
@@ -41,7 +43,7 @@ def page(title, data, run, trace):
         raise ringtools.Failure("ringctl and ringtrace disagree on the strokes")
     with open(os.path.join(LIB, "ringview.html"), encoding="utf-8") as template:
         text = template.read()
-    story = json.dumps({"size": data[0], "calls": calls}, separators=(",", ":"))
+    story = json.dumps({"size": faultlines.ring_size(data), "calls": calls}, separators=(",", ":"))
     return text.replace("{{title}}", html.escape(title)).replace("{{story}}", story)
 
 
@@ -53,7 +55,7 @@ def run(arguments):
         ringtools.say("ringview", printed.decode().strip() + "; bin/faultfile check says why")
         return ringtools.REFUSED
     trace = ringtools.output_of("ringtrace", data, "ringview")
-    title = os.path.basename(path) if path else "ring of %d" % data[0]
+    title = os.path.basename(path) if path else "ring of %d" % faultlines.ring_size(data)
     text = page(title, data, printed.decode().splitlines(), trace.decode().splitlines())
     ringtools.write_output(text.encode())
     return ringtools.SERVED

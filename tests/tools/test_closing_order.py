@@ -126,9 +126,10 @@ def served_calls():
 def stored_waves():
     """The waves of all served calls, by the kind of their cases."""
     waves = {"runs": [], "steps": [], "scans": []}
-    for data, text in stored_runs():
+    for _, text in stored_runs():
         if not text.startswith(b"refused"):
-            waves["runs"] += printed_waves(data[0], text.decode().splitlines()[1:])
+            head, *lines = text.decode().splitlines()
+            waves["runs"] += printed_waves(int(head.split(" ")[1]), lines)
     for kind, record, _, choices, sheet in CALLS:
         waves[kind].append(sheet_wave(record, choices, sheet))
     return waves

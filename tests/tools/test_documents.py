@@ -95,6 +95,16 @@ class Commands(unittest.TestCase):
     def test_the_service_visit_in_the_examples(self):
         self.check_changes("After the start its lines are\n", "service-visit", 6)
 
+    def test_the_file_from_the_works(self):
+        """README, the card and the examples say what it stands for; the examples have its lines, and the tables refuse one or two bytes."""
+        file = path("examples", "from-the-works.faults")
+        shown = re.search(r"((?:    .*\n)+)", text_of("examples", "README.md").split("in lines to go on with:\n")[1]).group(1)
+        self.assertEqual(re.sub("^    ", "", shown, flags=re.M).encode(), tool("faultfile", "decode", file).out)
+        self.assertEqual(tool("ringctl", file).out, tool("ringctl", data=b"ring 3\n").out)
+        for text in (text_of("README.md"), text_of("docs", "CARD.md")):
+            self.assertRegex(text, r"a file of no bytes\. It\s+stands for a ring of three without reports")
+            self.assertRegex(text, r"(?m)^\| 1 \| the file has one or two bytes \|$")
+
     def test_the_words_on_the_card(self):
         """Each word has its number, and stands for the parts that take it; so has the row of refusal 6."""
         card = text_of("docs", "CARD.md")

@@ -142,6 +142,8 @@ class Examples(ToolCase):
     def test_what_the_examples_are_for(self):
         runs = {name: read("examples", name + ".run") for name in EXAMPLES}
         self.assertIn(b"refused", runs["refused-word"])
+        self.assertEqual(read("examples", "from-the-works.faults"), b"")
+        self.assertTrue(runs["from-the-works"].startswith(b"ring 3 reports 0\n"))
         self.assertIn(b"B3=-", runs["cut-off"])
         self.assertIn(b"B4=G2h", runs["tie-of-four"])
         self.assertNotIn(b"=-", runs["planning-desk"])

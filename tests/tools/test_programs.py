@@ -31,7 +31,7 @@ class Programs(unittest.TestCase):
 
     def test_the_program_says_what_it_cannot_do(self):
         with open("/dev/full", "wb") as full:
-            for data in (b"\3\0\0", b"\3", bytes([20, 0, 16]) + b"\x40" * 4096 + b"\2" * 4096):
+            for data in (b"\3\0\0", b"", b"\3", bytes([20, 0, 16]) + b"\x40" * 4096 + b"\2" * 4096):
                 self.assertEqual(program("ringctl", data, stdout=full).said, "ringctl: standard output cannot be written\n")
         folder = os.open(path("examples"), os.O_RDONLY)
         self.addCleanup(os.close, folder)

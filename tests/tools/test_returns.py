@@ -20,8 +20,8 @@ RINGS = (3, 4, 5, 20)
 class Rules(unittest.TestCase):
 
     def test_the_rules_that_are_built(self):
-        """Notes 3 to 7 and no later one; every question to the simulation is bound to them."""
-        self.assertEqual(RULES, ringsim.rules_named("notes=3,4,5,6,7"))
+        """Notes 3 to 9 and no later one; every question to the simulation is bound to them."""
+        self.assertEqual(RULES, ringsim.rules_named("notes=3,4,5,6,7,8,9"))
         self.assertEqual({part.keywords["rules"] for part in vars(sim).values()}, {RULES})
 
     def test_the_simulation_is_asked_under_the_rules_alone(self):

@@ -112,10 +112,9 @@ class Program(ToolCase):
             self.holds(make_vectors.all_rated(ringsim.mean_hours_rate(hours)), FILE)
 
     def test_files_that_are_refused(self):
-        for data in make_vectors.examples():
+        for data in [*make_vectors.examples(), *make_vectors.short_files()]:
             if sim.parse_fault_file(data).refusal:
                 self.holds(make_vectors.EXAMPLE, data)
-        self.holds(make_vectors.EXAMPLE, b"")
 
     def test_the_longest_file_and_a_longer_one(self):
         for more in (0, 1, 1000):
@@ -228,7 +227,8 @@ class Ringchance(ToolCase):
         self.holds(b"G* unrated\nBB1 chance 2\n", FILE, "refused 15, a chance is from 0 to 1")
 
     def test_a_file_that_is_refused(self):
-        for data, number in ((b"", 1), (b"\2\0\0", 2), (b"\3\1\x10", 3), (b"\3\1\0", 4), (b"\3\1\0\3\1", 5), (b"\3\1\0\x40\1", 6)):
+        for data, number in ((b"\3", 1), (b"\3\0", 1), (b"\2\0\0", 2), (b"\3\1\x10", 3), (b"\3\1\0", 4), (b"\3\1\0\3\1", 5),
+                             (b"\3\1\0\x40\1", 6)):
             for words in ((), ("--bits",)):
                 self.check(tool("ringchance", *words, RATES, data=data), 1, b"refused %d\n" % number)
         self.check(tool("ringchance", RATES, data=b"Ring 3\n"), 1, b"refused 2\n", "^ringchance: this looks like text; readable lines begin")

@@ -23,7 +23,7 @@ class Ringctl(ToolCase):
         self.check(tool("ringctl", "-", data=FILE), 0, RUN)
 
     def test_refused_is_status_1(self):
-        for data, number in ((b"", 1), (b"\3", 1), (b"\2\0\0", 2), (b"\3\1\x10", 3), (b"\3\1\0", 4), (b"\3\1\0\3\1", 5),
+        for data, number in ((b"\3", 1), (b"\3\0", 1), (b"\2\0\0", 2), (b"\3\1\x10", 3), (b"\3\1\0", 4), (b"\3\1\0\3\1", 5),
                              (b"\3\1\0\x40\1", 6), (b"\3\1\0\0\2", 6)):
             self.check(tool("ringctl", data=data), 1, b"refused %d\n" % number)
 

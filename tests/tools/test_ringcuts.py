@@ -112,7 +112,7 @@ class Program(ToolCase):
             self.holds(small_file(rng))
 
     def test_files_that_are_refused(self):
-        for data in make_vectors.examples():
+        for data in [*make_vectors.examples(), *make_vectors.short_files()]:
             if sim.parse_fault_file(data).refusal:
                 self.holds(data)
 
@@ -176,7 +176,7 @@ class Ringcuts(ToolCase):
             self.check(tool("ringcuts", path("examples", "planning-desk" + end)), 0, read("examples", "planning-desk.cuts"))
 
     def test_refused_is_status_1(self):
-        for data, number in ((b"", 1), (b"\3", 1), (b"\2\0\0", 2), (b"\3\1\x10", 3), (b"\3\1\0", 4), (b"\3\1\0\3\1", 5),
+        for data, number in ((b"\3", 1), (b"\3\0", 1), (b"\2\0\0", 2), (b"\3\1\x10", 3), (b"\3\1\0", 4), (b"\3\1\0\3\1", 5),
                              (b"\3\1\0\x40\1", 6), (b"\3\1\0\0\2", 6)):
             for words in ((), ("--bus", "B9"), ("--counts",)):
                 self.check(tool("ringcuts", *words, data=data), 1, b"refused %d\n" % number)

@@ -275,7 +275,7 @@ class Ringscan(ToolCase):
         self.check(tool("ringscan", data=b"# bytes\nbytes 3 2 0\nbytes 65 65 2 0\n"), 0, tool("ringscan", data=b"\3\2\0\x41\x41\2\0").out)
 
     def test_a_fault_file_of_another_shape_is_refused_whole(self):
-        for data, number in ((b"", 1), (b"\3", 1), (b"\2\0\0", 2), (b"\x15\0\0", 2), (b"\3\1\x10", 3), (b"\3\1\0", 4), (b"\3\1\0\x40", 4),
+        for data, number in ((b"\3", 1), (b"\3\0", 1), (b"\2\0\0", 2), (b"\x15\0\0", 2), (b"\3\1\x10", 3), (b"\3\1\0", 4), (b"\3\1\0\x40", 4),
                              (b"# bytes\nbytes 3 1 0 64\n", 4)):
             for words in ((), ("--together",)):
                 self.check(tool("ringscan", *words, data=data), 1, b"refused %d\n" % number)

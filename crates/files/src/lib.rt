@@ -30,10 +30,10 @@ fn check_reports(n: u8, codes: &[u8], words: &[u8]) -> Outcome
 pub fn bus_count(file: &[u8]) -> u8
     ensures { λ r. ⌜ r ≡ fileSize (now (file .entry)) ⌝ }
 {
-    if file.len() == 0 {
-        return 3;
+    if 0 < file.len() {
+        return file[0];
     }
-    file[0]
+    3
 }
 
 // A whole fault file: 1, 2, 3, 4, then its reports first to last.
