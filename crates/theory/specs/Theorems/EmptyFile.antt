@@ -2,70 +2,22 @@
 use mathlib.Core.Path.{_≡_, refl}
 use mathlib.Core.Bool.{not}
 use mathlib.Core.Logic.{_⊎_, inl, inr, _≢_}
-use mathlib.Core.List.{List, [], _∷_, flatMap}
+use mathlib.Core.List.{List, [], _∷_}
 use Prim.Native.Nat.{ℕ, zero, suc}
 use native.Mathlib.Omega.{arith}
 use lib.Dec.{eqb, ltb}
 use lib.ListN.{length}
 use borrow.Author.Tests.{le-ltb}
-use Rattle.model.specs.Lists.{below, keep, first, anyOf, allOf}
-use Rattle.model.specs.Values.{partCode, numbered, samePart}
-use Rattle.model.specs.Plant.{parts, next, up, arc, connected}
-use Rattle.model.specs.Priority.{others, sources, pathBusBreakers, pathBreakers, pathParts, highRises, pathsFrom, paths}
-use Rattle.model.specs.Choosing.{
-  onPaths,
-  usable,
-  countedClosed,
-  isolated,
-  permitted,
-  choose,
-  addPath,
-  chosen,
-  plan,
-  commands,
-  choiceOf,
-  choices,
-}
-use Rattle.model.specs.Sheet.{opening, firstOccurrences, partsOf, sequence, closing}
-use Rattle.model.specs.Reports.{
-  fileSize,
-  fileCount,
-  fileCodes,
-  fileWords,
-  places,
-  healthOf,
-  commandsOf,
-  healthPlaces,
-  commandPlaces,
-  blankRing,
-}
-use Rattle.model.specs.Refusals.{firstMet, orElse, sizeOutside, reportsRefusal, fileRefusal}
+use Rattle.model.specs.Lists.{below}
+use Rattle.model.specs.Reports.{fileSize, fileCount, fileCodes, fileWords}
+use Rattle.model.specs.Refusals.{firstMet, sizeOutside, reportsRefusal, fileRefusal}
 use Rattle.model.specs.Answers.{fileAnswer, wholeValues}
-use Rattle.model.specs.Text.{
-  ascii,
-  digits,
-  decimal,
-  spaced,
-  kindName,
-  choiceText,
-  busText,
-  phaseText,
-  line,
-  transitionLine,
-  header,
-  runRing,
-  servedLines,
-  runLines,
-  joined,
-  printedRun,
-  runLeft,
-  ringAt,
-  cursorAt,
-}
+use Rattle.model.specs.Text.{runRing, servedLines, runLines, printedRun, runLeft, ringAt, cursorAt}
 use Rattle.model.specs.CutText.{latestRing, printedCutSets}
 use Rattle.model.specs.ExposureText.{printedExposures}
 use Rattle.model.specs.Laws.Reports.{stands-itself, stretches-read}
-use Rattle.theory.specs.Statements.EmptyFile.{SameFile, EmptyFile, emptyRun}
+use Rattle.theory.specs.Statements.EmptyFile.{SameFile, EmptyFile}
+use Rattle.theory.specs.Theorems.Outward.{example-runs}
 use Rattle.theory.specs.Theorems.Numbers.{more, or-never, reports-never}
 
 -- ---- the same bytes, and so the same answers
@@ -108,16 +60,6 @@ same-file = record {
   exposures = λ r. rw (same-refusal, same-latest);
 }
 
--- ---- what is printed
-
-prints-three : printedRun [] ≡ ascii emptyRun
-unfolding emptyRun printedRun joined runLines servedLines runRing header transitionLine line phaseText busText choiceText kindName spaced
-    decimal digits ascii fileRefusal reportsRefusal sizeOutside firstMet blankRing commandPlaces healthPlaces commandsOf healthOf places
-    closing sequence partsOf firstOccurrences opening choices choiceOf commands plan chosen addPath choose permitted isolated countedClosed
-    usable onPaths paths pathsFrom highRises pathParts pathBreakers pathBusBreakers sources others flatMap connected arc up next parts
-    partCode samePart allOf anyOf first keep below
-prints-three = refl
-
 -- ---- refusal 1
 
 -- a file of three bytes or more is not refused by 1
@@ -145,7 +87,7 @@ unfolding fileAnswer fileRefusal firstMet sizeOutside reportsRefusal
 empty-file = record {
   same = same-file;
   served = refl;
-  prints = prints-three;
+  prints = example-runs .1;
   one = λ a. refl;
   two = λ a b. refl;
   no-other = one-or-two;

@@ -1,7 +1,7 @@
--- Document 02, Note 4: what holds of every closing phase; those of the table are the definitions', and so is the printed run of document 01
--- with Note 4's line 0.
+-- Document 02, Note 4: what holds of every closing phase; those of the table are the definitions', and so are the printed run of document 01
+-- with Note 4's line 0, and that of a file of no bytes.
 use mathlib.Core.Path.{_≡_, refl}
-use mathlib.Core.List.{map, flatMap}
+use mathlib.Core.List.{[], map, flatMap}
 use Prim.Native.Nat.{ℕ, _≤_}
 use Rattle.model.specs.Lists.{below, keep, first, anyOf, allOf}
 use Rattle.model.specs.Values.{partCode, samePart}
@@ -70,6 +70,7 @@ use Rattle.model.specs.Text.{
 }
 use Rattle.theory.specs.Statements.Settled.{healthAfter}
 use Rattle.theory.specs.Statements.Outward.{Outward, ClosingPhase, closingPhases, closes, exampleFile, exampleRun}
+use Rattle.theory.specs.Statements.EmptyFile.{emptyRun}
 use Rattle.theory.specs.Theorems.Closing.{closing-same, closing-once, sheet-fits}
 use Rattle.theory.specs.Theorems.Advance.{advances}
 
@@ -89,12 +90,12 @@ unfolding closingPhases closes closing sequence partsOf firstOccurrences command
     arc up next samePart allOf anyOf first keep below
 closing-phases = refl
 
--- "Input `3 1 0 65 2` prints, whole", with line 0 of Note 4
-pub example-run : printedRun exampleFile ≡ ascii exampleRun
-unfolding exampleFile exampleRun printedRun joined runLines servedLines runRing toldAnswer header transitionLine line phaseText busText
+-- "Input `3 1 0 65 2` prints, whole", with line 0 of Note 4; and what a file of no bytes prints
+pub example-runs : (printedRun exampleFile ≡ ascii exampleRun) × (printedRun [] ≡ ascii emptyRun)
+unfolding exampleFile exampleRun emptyRun printedRun joined runLines servedLines runRing toldAnswer header transitionLine line phaseText busText
     choiceText kindName spaced decimal digits ascii reportAt fileRefusal reportsRefusal reportRefusal reportAnswer reportOf
     reportConditions wordOfOtherKind notOfRing sizeOutside firstMet withPlan planned told blankRing commandPlaces healthPlaces commandsOf
     healthOf places reported wordNamed partNamed closing sequence partsOf firstOccurrences opening choices choiceOf commands plan chosen
     addPath choose permitted isolated countedClosed usable onPaths paths pathsFrom highRises pathParts pathBreakers pathBusBreakers sources
     others flatMap connected arc up next parts partCode samePart allOf anyOf first keep below
-example-run = refl
+example-runs = (refl, refl)
