@@ -18,34 +18,38 @@ use Rattle.model.specs.ExposureText.{printedExposures}
 use Rattle.model.specs.Laws.Reports.{stands-itself, stretches-read}
 use Rattle.theory.specs.Statements.EmptyFile.{SameFile, EmptyFile}
 use Rattle.theory.specs.Theorems.Outward.{example-runs}
-use Rattle.theory.specs.Theorems.Numbers.{more, or-never, reports-never}
+use Rattle.theory.specs.Theorems.Numbers.{other, more, or-never, reports-never}
+
+-- "`3 0 0` is a whole file without reports."
+abbrev whole : List ℕ
+whole = 3 ∷ 0 ∷ 0 ∷ []
 
 -- ---- the same bytes, and so the same answers
 
-same-refusal : fileRefusal [] ≡ fileRefusal (3 ∷ 0 ∷ 0 ∷ [])
+same-refusal : fileRefusal [] ≡ fileRefusal whole
 unfolding fileRefusal
 same-refusal = refl
 
-same-rings : (i : ℕ) → runRing [] i ≡ runRing (3 ∷ 0 ∷ 0 ∷ []) i
+same-rings : (i : ℕ) → runRing [] i ≡ runRing whole i
 unfolding runRing
 same-rings zero = refl
 same-rings (suc i) = rw (same-rings i)
 
-same-lines : runLines [] ≡ runLines (3 ∷ 0 ∷ 0 ∷ [])
+same-lines : runLines [] ≡ runLines whole
 unfolding runLines servedLines runRing below
 same-lines = rw same-refusal
 
-same-cursors : (k : ℕ) → cursorAt [] k ≡ cursorAt (3 ∷ 0 ∷ 0 ∷ []) k
+same-cursors : (k : ℕ) → cursorAt [] k ≡ cursorAt whole k
 unfolding cursorAt ringAt
 same-cursors zero = refl
 same-cursors (suc zero) = refl
 same-cursors (suc (suc i)) = rw (same-rings i)
 
-same-latest : latestRing [] ≡ latestRing (3 ∷ 0 ∷ 0 ∷ [])
+same-latest : latestRing [] ≡ latestRing whole
 unfolding latestRing
 same-latest = rw (same-refusal, same-rings 0)
 
-same-file : SameFile [] (3 ∷ 0 ∷ 0 ∷ [])
+same-file : SameFile [] whole
 unfolding fileAnswer wholeValues printedRun runLeft printedCutSets printedExposures
 same-file = record {
   answer = rw same-refusal;
@@ -70,7 +74,7 @@ long-never a b c f =
     rw (fileRefusal, le-ltb (length g) 3 (omega arith))
     (or-never 1 _ _
     (more 1 (sizeOutside (fileSize g)) 2 _ refl
-    (more 1 (ltb 4096 (fileCount g)) 3 _ refl (more 1 (not (eqb (length g) _)) 4 _ refl (λ z. omega arith))))
+    (more 1 (ltb 4096 (fileCount g)) 3 _ refl (more 1 (not (eqb (length g) _)) 4 _ refl (other 1 0 refl))))
     (reports-never 1 refl refl refl (fileSize g) (fileCodes g) (fileWords g)))
 
 one-or-two : (f : List ℕ) → fileRefusal f ≡ 1 → (length f ≡ 1) ⊎ (length f ≡ 2)

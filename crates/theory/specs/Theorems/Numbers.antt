@@ -185,13 +185,14 @@ use Rattle.theory.specs.Theorems.Exposure.{rated}
 
 -- ---- of conditions
 
-served : _≢_ {A = ℕ} 0 7
-served z = omega arith
-
 module _ (k : ℕ) where
+  -- a number that the test tells from k
+  pub other : (i : ℕ) → not (eqb i k) ≡ true → i ≢ k
+  other i e z = contra e (ap not (eq-eqb i k z))
+
   -- a condition of number i before others
   pub more : (met : Bool) (i j : ℕ) → not (eqb i k) ≡ true → j ≢ k → cond met i j ≢ k
-  more true i j e p = λ z. contra e (ap not (eq-eqb i k z))
+  more true i j e p = other i e
   more false i j e p = p
 
   pub or-never : (i j : ℕ) → i ≢ k → j ≢ k → orElse i j ≢ k
@@ -200,29 +201,29 @@ module _ (k : ℕ) where
   -- ---- a number that no report has: not 0, 5 or 6
 
   module _ (zero : not (eqb 0 k) ≡ true) (five : not (eqb 5 k) ≡ true) (six : not (eqb 6 k) ≡ true) where
-    none-never : 0 ≢ k
-    none-never = more true 0 (suc k) zero (λ z. omega arith)
-
     report-never : (n : ℕ) (r : Report) → firstMet (reportConditions n r) ≢ k
     unfolding reportConditions firstMet
-    report-never n r = more (notOfRing n (r .part)) 5 _ five (more (wordOfOtherKind (r .part) _) 6 _ six none-never)
+    report-never n r = more (notOfRing n (r .part)) 5 _ five (more (wordOfOtherKind (r .part) _) 6 _ six (other 0 zero))
 
     -- a report by its code and its word
     read-never : (n : ℕ) (o : Option Part) (u : Option Word) → reportValues (reportOf n o u) .0 ≢ k
     unfolding reportOf
-    read-never n none u = more true 5 (suc k) five (λ z. omega arith)
-    read-never n (some p) none = more true 6 (suc k) six (λ z. omega arith)
+    read-never n none u = other 5 five
+    read-never n (some p) none = other 6 six
     read-never n (some p) (some w) =
         let r : Report = record { part = p; word = w } in
-        by-cond (λ a. reportValues a .0 ≢ k) (eqb (firstMet (reportConditions n r)) 0) (λ t. none-never) (λ t. report-never n r)
+        by-cond (λ a. reportValues a .0 ≢ k) (eqb (firstMet (reportConditions n r)) 0) (λ t. other 0 zero) (λ t. report-never n r)
 
     pub reports-never : (n : ℕ) (cs vs : List ℕ) → reportsRefusal n cs vs ≢ k
     unfolding reportsRefusal reportRefusal reportAnswer
-    reports-never n [] vs = none-never
-    reports-never n (c ∷ cs) [] = none-never
+    reports-never n [] vs = other 0 zero
+    reports-never n (c ∷ cs) [] = other 0 zero
     reports-never n (c ∷ cs) (v ∷ vs) = or-never _ _ (read-never n (partNamed n c) (wordNamed v)) (reports-never n cs vs)
 
 -- ---- the refusals
+
+served : _≢_ {A = ℕ} 0 7
+served = other 7 0 refl
 
 file-never : (f : List ℕ) → fileRefusal f ≢ 7
 unfolding fileRefusal firstMet
