@@ -208,11 +208,27 @@ pub order_once : {Ss : List (List Part)} → InOrder Ss → Distinct Ss
 order_once no_more = nothing
 order_once (then {S = S} f r) = one_more (λ m. before_other S (f S m)) (order_once r)
 
+-- stated of two pairs that are the same, so that the two are taken apart by themselves
+earlier_apart : {S T U V : List Part} → Earlier S T → Earlier U V → S ≡ V → T ≡ U → ⊥
+earlier_apart (here {p = p} {q = q} l) (here {p = r} {q = s} m) d e =
+    let a : p ≡ s = cc in
+    let b : q ≡ r = cc in
+    omega (arith, ap part_code a, ap part_code b)
+earlier_apart (here {p = p} {q = q} l) (there {p = r} s) d e =
+    let a : p ≡ r = cc in
+    let b : q ≡ r = cc in
+    omega (arith, ap part_code a, ap part_code b)
+earlier_apart (there {p = p} r) (here {p = q} {q = s} m) d e =
+    let a : p ≡ s = cc in
+    let b : p ≡ q = cc in
+    omega (arith, ap part_code a, ap part_code b)
+earlier_apart (there {S = S} {T = T} r) (there {S = U} {T = V} s) d e =
+    let a : S ≡ V = cc in
+    let b : T ≡ U = cc in
+    earlier_apart r s a b
+
 earlier_one_way : {S T : List Part} → Earlier S T → Earlier T S → ⊥
-earlier_one_way (here l) (here m) = omega arith
-earlier_one_way (here l) (there s) = omega arith
-earlier_one_way (there r) (here m) = omega arith
-earlier_one_way (there r) (there s) = earlier_one_way r s
+earlier_one_way r s = earlier_apart r s refl refl
 
 before_one_way : (S T : List Part) → Before S T → Before T S → ⊥
 before_one_way S T (inl l) (inl m) = omega arith
