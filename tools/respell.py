@@ -96,6 +96,9 @@ def plan():
     for f in sources:
         for a, b in clause_spans(texts[f]):
             uses[f] |= set(WORD.findall(re.sub(r"^ghost use [^\s{]+", "", texts[f][a:b])))
+            for w in re.findall(r" as ([\w'-]+)", texts[f][a:b]):
+                if TURNS.search(w) and not re.match(r"[A-Z]", w):
+                    found[w] += 1
     to = {w: snake(w) for w in found}
     declared = {m[1] for f in specs for m in re.finditer(r"(?m)^\s*(?:abbrev |pub |unfoldable )*([^\s(){}:,;]+) :", texts[f])}
     shown = set()

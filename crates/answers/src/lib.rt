@@ -1,5 +1,7 @@
 // What the programs that run stored calls of a ring share: the reports of a case, and whether an answer is the one that the case holds.
 // Places are indices from 0.
+#![tactic(auto)]
+
 ghost use Rattle.std.specs.Prelude.{◌≡◌, true, ◌+◌, ◌≤◌, length};
 ghost use Rattle.model.specs.declared.Part.{Part};
 ghost use Rattle.model.specs.declared.Word.{Word};

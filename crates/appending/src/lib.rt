@@ -1,4 +1,6 @@
 // Bytes stored in a lent buffer, one after the other: what the sheet and the printed run share. Places are indices from 0.
+#![tactic(auto)]
+
 ghost use Rattle.std.specs.Prelude.{◌+◌, ◌≤◌, length};
 ghost use Rattle.model.specs.Laws.Appended.{Appended};
 

@@ -1,4 +1,6 @@
 // The live bookings of a load (document 02, Note 5: "Load bookings"): those of its first places. Places are indices from 0.
+#![tactic(auto)]
+
 ghost use Rattle.std.specs.Prelude.{◌≡◌, true, suc, ◌≤◌, ◌<◌, get_or, drop};
 ghost use Rattle.model.specs.Lists.{any_of};
 ghost use Rattle.model.specs.Bookings.{

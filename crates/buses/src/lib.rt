@@ -1,4 +1,6 @@
 // "each bus with its source and way". An `append_` function stores its text from `at` on and answers the place behind it.
+#![tactic(auto)]
+
 ghost use Rattle.std.specs.Prelude.{◌≡◌, map, ◌+◌, ◌*◌, ◌<◌, ◌≤◌, length};
 ghost use Rattle.model.specs.Lists.{below};
 ghost use Rattle.model.specs.Values.{choice_source, choice_letter};

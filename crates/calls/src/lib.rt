@@ -1,4 +1,6 @@
 // The line of a served call, or a scan's refusal, with the ring behind it. Lines are counted from 0, the start's.
+#![tactic(auto)]
+
 ghost use Rattle.std.specs.Prelude.{◌≡◌, false, ◌<◌, ◌≤◌, length};
 ghost use Rattle.model.specs.Reports.{blank_ring, told};
 ghost use Rattle.model.specs.Refusals.{first_met, report_conditions, bad_ring};

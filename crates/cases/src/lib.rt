@@ -1,5 +1,7 @@
 // What the programs that run stored cases read in a case: arrays of bytes and of commands, a ring, and an outcome's number. Places are
 // indices from 0.
+#![tactic(auto)]
+
 ghost use Rattle.std.specs.Prelude.{◌≡◌, ◌+◌, ◌≤◌, length};
 ghost use Rattle.model.specs.Values.{outcome_number};
 ghost use Rattle.cases.specs.Cases.{bytes_at, bools_at, health_at, commands_at, ring_at};

@@ -1,5 +1,7 @@
 // The chance of a dark hour (document 02, Note 8) of every bus after a fault file's last report, as text in the front of a lent buffer: a line
 // a bus, or the refusal of the file. Buses are numbers, from 1.
+#![tactic(auto)]
+
 ghost use Rattle.std.specs.Prelude.{◌≡◌, ◌+◌, ◌<◌, ◌≤◌, length};
 ghost use Rattle.model.specs.Sheet.{written};
 ghost use Rattle.model.specs.ExposureText.{exposure_room, bus_exposure_line, exposure_lines, exposures_room, printed_exposures};

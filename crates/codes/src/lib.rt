@@ -1,4 +1,6 @@
 // Part codes (document 01, "Fault file and reports"). Parts carry the paper's numbers, from 1; codes are counted from 0.
+#![tactic(auto)]
+
 ghost use Rattle.std.specs.Prelude.{◌≡◌};
 ghost use Rattle.model.specs.Values.{number, index, first_code, part_code, part_values};
 ghost use Rattle.model.specs.Reports.{part_named};

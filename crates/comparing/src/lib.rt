@@ -1,4 +1,6 @@
 // Whether two rings are the same, for the programs that run stored cases. Places are indices from 0.
+#![tactic(auto)]
+
 ghost use Rattle.std.specs.Prelude.{◌≡◌, true};
 
 use model::{Commands, Health, Ring};

@@ -1,5 +1,7 @@
 // Whether two ring states (document 01: ring records) are the same, their loads in every place, for the programs that run stored cases. Places
 // are indices from 0.
+#![tactic(auto)]
+
 ghost use Rattle.std.specs.Prelude.{◌≡◌, true};
 
 use model::{Booking, Load, RingState};

@@ -1,7 +1,9 @@
 // What the plan, the plant reckoning, the files and the ring states share: the bus after another, whether a generator is fit, and the
 // tests of a ring's size and of a bus's number. Buses are indices from 0, the paper's numbers less 1.
+#![tactic(auto)]
+
 ghost use Rattle.std.specs.Prelude.{◌≡◌, not, ◌&&◌, ◌≤◌, ◌<◌};
-ghost use Rattle.model.specs.Plant.{fit, next as busAfter};
+ghost use Rattle.model.specs.Plant.{fit, next as bus_after};
 ghost use Rattle.model.specs.Refusals.{size_outside, bus_outside};
 
 use model::FIT;
@@ -10,7 +12,7 @@ use model::FIT;
 pub fn next(n: usize, k: usize) -> usize
     requires bus { k < n }
     requires size { n ≤ 20 }
-    ensures { result ≡ busAfter n k }
+    ensures { result ≡ bus_after n k }
 {
     let j = k + 1;
     if j < n { j } else { 0 }

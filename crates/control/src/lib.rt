@@ -1,5 +1,7 @@
 // Start, step and scan of a ring (document 01, "Fault file and reports"; document 02, Note 2), and bookings on it (document 02, Note 5): the
 // calls that take any n, any ring state (document 01: ring record), any report, any scan, any booking and any buffer.
+#![tactic(auto)]
+
 ghost use Rattle.std.specs.Prelude.{◌≡◌, [], ◌∷◌, length};
 ghost use Rattle.model.specs.Values.{outcome_number, choice_values};
 ghost use Rattle.model.specs.Reports.{blank_ring};

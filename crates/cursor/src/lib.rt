@@ -1,4 +1,6 @@
 // The line of a run at a cursor, and the cursor behind it, with the ring there. Places and reports are counted from 0.
+#![tactic(auto)]
+
 ghost use Rattle.std.specs.Prelude.{◌≡◌, ◌+◌, ◌<◌, ◌≤◌, length};
 ghost use Rattle.model.specs.Reports.{file_count, with_plan};
 ghost use Rattle.model.specs.Refusals.{file_refusal};

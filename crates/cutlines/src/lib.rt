@@ -1,6 +1,8 @@
 // The text of a bus's minimal cut sets, from the bytes of their sheet (document 02, Note 1): "a two-byte count, low byte first, then
 // three bytes a set, rising, with 255 for unused". Sets are counted from 0. An `append_` function stores its text from `at` on and
 // answers the place behind it.
+#![tactic(auto)]
+
 ghost use Rattle.std.specs.Prelude.{◌+◌, ◌*◌, ◌<◌, ◌≤◌, length};
 ghost use Rattle.model.specs.CutText.{count_line};
 ghost use Rattle.model.specs.Laws.Appended.{Appended};

@@ -1,5 +1,7 @@
 // The minimal cut sets of a bus (document 02, Note 1, "Which further faults darken a studio"): the API for any ring state, any bus and any
 // buffer. The call's bus is a number, from 1; buses and places are indices from 0 elsewhere.
+#![tactic(auto)]
+
 ghost use Rattle.std.specs.Prelude.{◌≡◌, ℕ, ◌+◌, ◌*◌, ◌≤◌, ◌<◌, length, take};
 ghost use mathlib.Core.List.{List, flat_map};
 ghost use Rattle.model.specs.Values.{outcome_number};

@@ -1,4 +1,6 @@
 // The rates of parts (document 02, Note 8: "as its data sheet gives it") in the bytes of a stored case. Places are indices from 0.
+#![tactic(auto)]
+
 ghost use Rattle.std.specs.Prelude.{◌≡◌, ◌+◌, ◌≤◌, length};
 ghost use Rattle.std.specs.Float.{binary64};
 ghost use Rattle.std.specs.Float.Ieee.{of_bits};

@@ -1,6 +1,8 @@
 // The chance of a dark hour (document 02, Note 8): a bus's probability bound over its minimal cut sets, the API for any ring state, any bus and
 // any rates. The sets are those that `cutsets::list` lays out, read from its sheet. The call's bus is a number, from 1; places are indices
 // from 0.
+#![tactic(auto)]
+
 ghost use Rattle.std.specs.Prelude.{◌≡◌, not, ◌+◌, ◌*◌, ◌≤◌, ◌<◌, T, length};
 ghost use Rattle.std.specs.Float.Ieee.{is_nan};
 ghost use Rattle.model.specs.Plant.{largest};

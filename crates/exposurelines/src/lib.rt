@@ -1,5 +1,7 @@
 // The chance of a dark hour (document 02, Note 8) as a line of text in a lent buffer: a bus, and its figures or the refusal. An `append_` function
 // stores its text from `at` on and answers the place behind it, and tells how far that is at most. The bus is a number, from 1.
+#![tactic(auto)]
+
 ghost use Rattle.std.specs.Prelude.{◌≡◌, not, ◌+◌, ◌<◌, ◌≤◌, T, length};
 ghost use Rattle.std.specs.Float.Ieee.{is_nan};
 ghost use Rattle.model.specs.Text.{refused_text};

@@ -1,4 +1,6 @@
 // Further faults (document 02, Note 1) of the parts of a ring, by their places: in rising code, generators first, from 0 to 3n - 1.
+#![tactic(auto)]
+
 ghost use Rattle.std.specs.Prelude.{◌≡◌, ◌∷◌, [], ◌*◌, ◌≤◌, ◌<◌};
 ghost use Rattle.model.specs.Values.{part_code};
 ghost use Rattle.model.specs.Reports.{health_of};

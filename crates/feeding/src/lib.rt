@@ -1,8 +1,10 @@
 // Whether a generator feeds a bus, by the health and the commands of the parts (document 01, "The plant").
 // Buses, generators and breakers are indices from 0 here, the paper's numbers less 1.
+#![tactic(auto)]
+
 ghost use Rattle.std.specs.Prelude.{◌≡◌, ◌&&◌, not, ◌≤◌, ◌<◌};
 ghost use Rattle.model.specs.Lists.{all_of};
-ghost use Rattle.model.specs.Plant.{fit, closed, up, arc, connected as connectedBuses, bus_breaker_closed, feeds as feedsOf};
+ghost use Rattle.model.specs.Plant.{fit, closed, up, arc, connected as connected_buses, bus_breaker_closed, feeds as feeds_of};
 ghost use Rattle.model.specs.Reports.{health_of, commands_of};
 
 use model::{Commands, Health, STUCK_CLOSED, STUCK_OPEN};
@@ -45,7 +47,7 @@ fn connected(n: usize, health: Health, commands: Commands, a: usize, b: usize) -
     requires from { a < n }
     requires to { b < n }
     requires size { n ≤ 20 }
-    ensures { result ≡ connectedBuses n (bus_breaker_closed (health_of health) (commands_of commands)) a b }
+    ensures { result ≡ connected_buses n (bus_breaker_closed (health_of health) (commands_of commands)) a b }
 {
     arc_closed(n, health, commands, a, b) || arc_closed(n, health, commands, b, a)
 }
@@ -55,7 +57,7 @@ pub fn feeds_bus(n: usize, health: Health, commands: Commands, b: usize, g: usiz
     requires bus { b < n }
     requires generator { g < n }
     requires size { n ≤ 20 }
-    ensures { result ≡ feedsOf n (health_of health) (commands_of commands) b g }
+    ensures { result ≡ feeds_of n (health_of health) (commands_of commands) b g }
 {
     is_running(
         health.generators[g],

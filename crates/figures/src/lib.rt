@@ -1,5 +1,7 @@
 // The figures of a load (document 02, Note 5): "every generator's watts, .. equal to those of the live bookings on the buses it feeds, and
 // the watts on dark buses". Places of arrays are indices from 0; a choice has a generator's number, from 1, a booking its bus's.
+#![tactic(auto)]
+
 ghost use Rattle.std.specs.Prelude.{◌≡◌, ◌≤◌};
 ghost use Rattle.model.specs.Values.{choice_source};
 ghost use Rattle.model.specs.Bookings.{live_bookings, with_figures, other_figures};

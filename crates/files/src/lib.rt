@@ -1,4 +1,6 @@
 // The checks of a whole fault file (document 01, "Fault file and reports"). Reports are counted from 0.
+#![tactic(auto)]
+
 ghost use Rattle.std.specs.Prelude.{◌≡◌};
 ghost use Rattle.model.specs.Values.{outcome_of, file_values};
 ghost use Rattle.model.specs.Reports.{file_size};

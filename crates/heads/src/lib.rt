@@ -1,8 +1,10 @@
 // The first line of a printed run (document 01, "The printed run") in the front of a lent buffer: a header or a refusal. An `append_`
 // function stores its text from `at` on and answers the place behind it.
+#![tactic(auto)]
+
 ghost use Rattle.std.specs.Prelude.{◌≡◌, ◌++◌, ◌+◌, ◌<◌, ◌≤◌, length};
 ghost use Rattle.model.specs.Sheet.{written};
-ghost use Rattle.model.specs.Text.{decimal, header as headerText, refused_text, line_room};
+ghost use Rattle.model.specs.Text.{decimal, header as header_text, refused_text, line_room};
 ghost use Rattle.model.specs.Laws.Appended.{Appended};
 
 use numbers::append_number;
@@ -19,8 +21,8 @@ fn append_labelled(text: &[u8], k: usize, out: &mut [u8], at: usize) -> usize
 // "a header"
 pub fn header(n: u8, m: usize, out: &mut [u8]) -> usize
     requires { (m < 10000) × (line_room ≤ length out.old) }
-    ensures bytes { out.new ≡ written (headerText n m) out.old }
-    ensures end { result ≡ length (headerText n m) }
+    ensures bytes { out.new ≡ written (header_text n m) out.old }
+    ensures end { result ≡ length (header_text n m) }
 {
     let reports = append_labelled(b"ring ", n as usize, out, 0);
     let end = append_labelled(b" reports ", m, out, reports);

@@ -1,4 +1,6 @@
 // The test that healths are those of their parts' kinds. Places of arrays are indices from 0, the paper's numbers less 1.
+#![tactic(auto)]
+
 ghost use Rattle.std.specs.Prelude.{◌≡◌, ◌||◌, min};
 ghost use Rattle.model.specs.Plant.{fit, stuck_off, stuck_open, stuck_closed, parts, largest};
 ghost use Rattle.model.specs.Reports.{health_of};

@@ -1,4 +1,6 @@
 // The ring after a fault file's last report: told every report, and planned once. Reports are counted from 0.
+#![tactic(auto)]
+
 ghost use Rattle.std.specs.Prelude.{◌≡◌, ◌≤◌, length};
 ghost use Rattle.model.specs.declared.FileAnswer.TheVariants.{Served};
 ghost use Rattle.model.specs.Values.{outcome_of, outcome_number};

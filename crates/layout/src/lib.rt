@@ -1,4 +1,6 @@
 // The bytes of a command sheet (document 01: order sheet) in a lent stretch of its own length. Places are indices from 0.
+#![tactic(auto)]
+
 ghost use Rattle.std.specs.Prelude.{◌≡◌, ◌+◌, ◌-◌, ◌*◌, ◌≤◌, length, take, replicate};
 ghost use Rattle.model.specs.Laws.Appended.{Appended};
 ghost use Rattle.layout.specs.Layout.{layout};

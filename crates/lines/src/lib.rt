@@ -1,5 +1,7 @@
 // A call's line of a printed run (document 01, "The printed run") in the front of a lent buffer, from its choices and its command
 // sheet. An `append_` function stores its text from `at` on and answers the place behind it.
+#![tactic(auto)]
+
 ghost use Rattle.std.specs.Prelude.{◌≡◌, ◌++◌, ◌+◌, ◌*◌, ◌<◌, ◌≤◌, length};
 ghost use Rattle.model.specs.Sheet.{written};
 ghost use Rattle.model.specs.Text.{line_room};

@@ -1,5 +1,7 @@
 // The minimal cut sets of a bus of a ring state as text in a lent buffer: its line, as `B3 10`, then a line a set. Buses are numbers,
 // from 1.
+#![tactic(auto)]
+
 ghost use Rattle.std.specs.Prelude.{◌≡◌, ◌≤◌, length};
 ghost use Rattle.model.specs.Sheet.{written};
 ghost use Rattle.model.specs.States.{unloaded};

@@ -1,6 +1,8 @@
 // The figures of a load (document 02, Note 5) as a line of text in the front of a lent buffer: "every generator's watts, .. and the watts
 // on dark buses". An `append_` function stores its text from `at` on and answers the place behind it, and tells how far that is at most:
 // no bound is known of the watts in a load.
+#![tactic(auto)]
+
 ghost use Rattle.std.specs.Prelude.{◌≡◌, map, ◌+◌, ◌*◌, ◌<◌, ◌≤◌, length};
 ghost use Rattle.model.specs.Lists.{below};
 ghost use Rattle.model.specs.Sheet.{written};

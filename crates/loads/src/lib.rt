@@ -1,4 +1,6 @@
 // Loads and ring states (document 01: ring records) in the bytes of a stored case. Places are indices from 0.
+#![tactic(auto)]
+
 ghost use Rattle.std.specs.Prelude.{◌≡◌, ◌+◌, ◌*◌, ◌≤◌, length};
 ghost use Rattle.loads.specs.Loads.{number_at, watts_at, booking_at, bookings_at, figures_at, load_at, state_at};
 

@@ -1,5 +1,6 @@
 // The data of a ring of generators (document 01). Types and numbers alone: their meaning is defined in specs/.
 // Parts, buses and generators carry the paper's numbers, 1 to n; arrays have a place for each of 20, at number - 1.
+#![tactic(auto)]
 
 // "A report holds a part, which is a generator, a generator breaker or a bus breaker with its number, and a word."
 #[derive(Drop)]

@@ -1,4 +1,6 @@
 // Decimal numbers. An `append_` function stores its text from `at` on and answers the place behind it.
+#![tactic(auto)]
+
 ghost use Rattle.std.specs.Prelude.{◌+◌, ◌<◌, ◌≤◌, length};
 ghost use Rattle.model.specs.Text.{decimal};
 ghost use Rattle.model.specs.Laws.Appended.{Appended};

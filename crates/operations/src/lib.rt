@@ -1,5 +1,7 @@
 // The operations of a phase (document 01: wave) from the bytes of a command sheet. An `append_` function stores its text from `at` on
 // and answers the place behind it.
+#![tactic(auto)]
+
 ghost use Rattle.std.specs.Prelude.{◌≡◌, ◌+◌, ◌*◌, ◌≤◌, length};
 ghost use mathlib.Core.List.{◌++◌, zip_with};
 ghost use Rattle.model.specs.Text.{ascii};

@@ -1,5 +1,7 @@
 // Whether a bus is dark, and how many faults it takes at least to leave it dark: by walking out from it to both sides, as far as the first
 // generator that may feed. Buses and breakers are indices from 0.
+#![tactic(auto)]
+
 ghost use Rattle.std.specs.Prelude.{◌≡◌, ◌≤◌, ◌<◌};
 ghost use Rattle.model.specs.Lists.{is_none};
 ghost use Rattle.model.specs.Choosing.{plan};

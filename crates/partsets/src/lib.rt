@@ -1,5 +1,7 @@
 // A set of further faults (document 02, Note 1) that is being made, held by the places of its parts among those of the ring.
 // Buses and places are indices from 0.
+#![tactic(auto)]
+
 ghost use Rattle.std.specs.Prelude.{◌≡◌, true, ◌+◌, ◌*◌, ◌≤◌, ◌<◌, length, get_or};
 ghost use Rattle.model.specs.Reports.{health_of};
 ghost use Rattle.model.specs.CutSets.{with_faults, minimal, set_bytes};

@@ -1,5 +1,7 @@
 // The search for a bus's path: "The search over generators and their two ways ends at the first permitted way."
 // Buses, generators and bus breakers are indices from 0; an owner is a generator's number, from 1, or 0 where there is none.
+#![tactic(auto)]
+
 ghost use Rattle.std.specs.Prelude.{◌≡◌, ◌-◌, ◌≤◌, ◌<◌, length, get_or};
 ghost use Rattle.model.specs.Lists.{first};
 ghost use Rattle.model.specs.Priority.{source_row, high_rises, paths};

@@ -1,5 +1,7 @@
 // The opening phase (document 01: first wave): the codes of the parts whose commands change to off or open, in rising order; and how many
 // parts each phase has. Parts are indices from 0 here.
+#![tactic(auto)]
+
 ghost use Rattle.std.specs.Prelude.{◌≡◌, ◌+◌, ◌≤◌, length};
 ghost use Rattle.model.specs.Lists.{below, keep, any_of};
 ghost use Rattle.model.specs.Reports.{commands_of};

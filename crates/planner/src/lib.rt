@@ -1,5 +1,7 @@
 // The plan for a ring's health: each bus's choice and each part's command (document 01, "Choosing").
 // Buses are indices from 0 here; a choice has a generator's number, from 1.
+#![tactic(auto)]
+
 ghost use Rattle.std.specs.Prelude.{◌≡◌, ◌≤◌};
 ghost use Rattle.model.specs.Values.{choice_values};
 ghost use Rattle.model.specs.Choosing.{commands, plan_values, choices};

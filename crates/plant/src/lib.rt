@@ -1,5 +1,7 @@
 // The plant reckoning of document 01: who feeds each bus, by the health and the commands of the parts.
 // Buses, generators and breakers are indices from 0 here, the paper's numbers less 1; an answer names numbers.
+#![tactic(auto)]
+
 ghost use Rattle.std.specs.Prelude.{◌≡◌, ◌≤◌, ◌<◌};
 ghost use Rattle.model.specs.Values.{outcome_number, feed_values};
 ghost use Rattle.model.specs.Plant.{bus_feed};

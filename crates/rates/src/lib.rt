@@ -1,5 +1,7 @@
 // The rates of parts (document 02, Note 8, "Chance of a dark hour"): the rate of a part, its chance, and the tests of 15 and of 16. Places of
 // arrays are indices from 0, the paper's numbers less 1.
+#![tactic(auto)]
+
 ghost use Rattle.std.specs.Prelude.{◌≡◌, not, ◌&&◌, ◌||◌, ◌≤◌};
 ghost use Rattle.std.specs.Float.Ieee.{lt, le};
 ghost use Rattle.std.specs.Float.Ieee.Scale.{finite};

@@ -1,4 +1,6 @@
 // A fault file from standard input, for the programs that take one.
+#![tactic(auto)]
+
 ghost use Rattle.std.specs.Prelude.{◌≡◌, length};
 ghost use Rattle.io.specs.Counts.{IsPrefixLen};
 ghost use Rattle.model.specs.Text.{read_size};

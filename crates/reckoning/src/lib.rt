@@ -1,5 +1,7 @@
 // A load beside its ring, its figures "kept up to date" (document 02, Note 5). Inner calls: the ring is a good one, and the live bookings are
 // within their bounds.
+#![tactic(auto)]
+
 ghost use Rattle.std.specs.Prelude.{◌≡◌, ◌≤◌};
 ghost use Rattle.model.specs.declared.Outcome.TheVariants.{Served};
 ghost use Rattle.model.specs.Bookings.{live_bookings};

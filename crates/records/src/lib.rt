@@ -1,4 +1,6 @@
 // The ring state (document 01: ring record) that is refused by 9: what every call that takes one checks first.
+#![tactic(auto)]
+
 ghost use Rattle.std.specs.Prelude.{◌≡◌, ◌≤◌};
 ghost use Rattle.model.specs.Bookings.{bad_load};
 ghost use Rattle.model.specs.States.{bad_record};

@@ -1,5 +1,7 @@
 // The reports of a fault file (document 01, "Fault file and reports"). Parts carry the paper's numbers, from 1; the reports of a file
 // are counted from 0.
+#![tactic(auto)]
+
 ghost use Rattle.std.specs.Prelude.{◌≡◌};
 ghost use Rattle.std.proofs.Math.Option.{some};
 ghost use Rattle.model.specs.Values.{outcome_of, outcome_number, report_values};

@@ -1,5 +1,7 @@
 // The program: reads the rates of sixty parts, nine bytes each, and a fault file from standard input, and prints the chance of a dark hour of
 // every bus after its last report. What it prints is proved in `datasheets` and `chances`: here are two reads and a write.
+#![tactic(auto)]
+
 use libc::{STDERR_FILENO, STDIN_FILENO, STDOUT_FILENO};
 use model::Rates;
 

@@ -1,5 +1,7 @@
 // The program: reads a fault file from standard input and prints its run. What it prints is proved in `run`: here is a read, a loop around
 // `run::fill`, and a write.
+#![tactic(auto)]
+
 ghost use Rattle.std.specs.Prelude.{◌≤◌, length};
 ghost use Rattle.model.specs.Text.{line_room};
 

@@ -1,5 +1,7 @@
 // The program: reads a fault file from standard input and prints the minimal cut sets of every bus after its last report. What it prints
 // is proved in `latest`, `listing` and `heads`: here is a read, a loop over the buses, and a write for each.
+#![tactic(auto)]
+
 ghost use Rattle.std.specs.Prelude.{◌≤◌, length};
 ghost use Rattle.model.specs.CutText.{text_room};
 

@@ -1,6 +1,8 @@
 // Load bookings for a class: reads n, then calls of 194 bytes each, the number of a kind (0 a report, 1 a scan, 2 a booking, 3 a
 // cancellation) and what the call takes, and prints a line for the start and one for each call: the watts of each generator and on dark
 // buses, or its refusal. What it prints is proved in `loadlines` and `heads`.
+#![tactic(auto)]
+
 ghost use Rattle.std.specs.Prelude.{◌≤◌, length};
 ghost use Rattle.model.specs.Text.{line_room};
 

@@ -1,5 +1,7 @@
 // The plant reckoning for a class: reads n, the health of the sixty parts, the locks of the generators (1 is locked) and the parts' commands
 // (1 is on or closed), a byte each, and prints what feeds each bus.
+#![tactic(auto)]
+
 ghost use Rattle.std.specs.Prelude.{◌≤◌};
 
 use libc::{STDERR_FILENO, STDIN_FILENO, STDOUT_FILENO};

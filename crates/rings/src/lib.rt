@@ -1,7 +1,9 @@
 // Rings: the blank one, one that is told a report, and the answer that keeps one; and a load without bookings. Parts carry the
 // paper's numbers, from 1; places are indices from 0.
+#![tactic(auto)]
+
 ghost use Rattle.std.specs.Prelude.{◌≡◌, false};
-ghost use Rattle.model.specs.Reports.{places, health_of, health_places, reported, blank_ring, told as toldRing};
+ghost use Rattle.model.specs.Reports.{places, health_of, health_places, reported, blank_ring, told as told_ring};
 ghost use Rattle.model.specs.Answers.{refused_answer};
 ghost use Rattle.model.specs.Bookings.{no_load};
 ghost use Rattle.rings.specs.Words.{with_value, with_health, with_lock};
@@ -99,7 +101,7 @@ fn with_word(health: Health, report: Report) -> Health
 
 // What a report does to a ring before any command: its word's effect on the health or the lock.
 pub fn told(ring: Ring, report: Report) -> Ring
-    ensures { result ≡ toldRing ring report }
+    ensures { result ≡ told_ring ring report }
 {
     let before = ring.health;
     let after = with_word(before, report);

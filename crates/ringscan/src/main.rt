@@ -1,5 +1,7 @@
 // Scans for a class: reads n, then scans of 193 bytes each, a count and 64 places of three bytes (a part's kind and number, and a word),
 // and prints the start's line and the text of each scan. What it prints is proved in `calls` and `heads`.
+#![tactic(auto)]
+
 ghost use Rattle.std.specs.Prelude.{◌≡◌, false, ◌≤◌, length};
 ghost use Rattle.model.specs.Refusals.{bad_ring};
 ghost use Rattle.model.specs.Text.{line_room};

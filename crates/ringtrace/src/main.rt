@@ -1,5 +1,7 @@
 // What feeds each bus after every operation (document 01: stroke): reads a fault file from standard input and prints, for each
 // call, a line for the ring after the word and before the first operation, and a line after each operation of both phases.
+#![tactic(auto)]
+
 ghost use Rattle.std.specs.Prelude.{◌≤◌};
 
 use libc::{STDERR_FILENO, STDOUT_FILENO};

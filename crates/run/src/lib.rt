@@ -1,5 +1,7 @@
 // The printed run of a fault file (document 01, "The printed run") as bytes in a lent buffer, piece by piece. Places are
 // counted from 0.
+#![tactic(auto)]
+
 ghost use Rattle.std.specs.Prelude.{◌≡◌, List, ◌++◌, ℕ, ◌<◌, ◌≤◌, ltb, length, take, drop};
 ghost use Rattle.model.specs.Reports.{blank_ring};
 ghost use Rattle.model.specs.Text.{run_lines, printed_run, run_left, cursor_at, Within, line_room};

@@ -1,4 +1,6 @@
 // The reports of a scan (document 02, Note 2: "Several reports from one scan"), one after the other. Reports are counted from 0.
+#![tactic(auto)]
+
 ghost use Rattle.std.specs.Prelude.{◌≡◌, ◌≤◌};
 ghost use Rattle.model.specs.Values.{outcome_of, outcome_number};
 ghost use Rattle.model.specs.Scans.{scan_reports, told_all, first_refusal};

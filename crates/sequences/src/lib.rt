@@ -1,10 +1,12 @@
 // The closing phase (document 01: second wave; document 02, Note 4): the codes of the parts that close, outward from their sources. "The
 // second wave goes through buses in number order and each chosen way in that sequence, a part only where it first comes."
 // Buses, generators and bus breakers are indices from 0; a choice has a generator's number, from 1.
+#![tactic(auto)]
+
 ghost use Rattle.std.specs.Prelude.{◌≡◌, [], ◌∷◌, map, ◌+◌, ◌≤◌, ◌<◌, length};
 ghost use Rattle.model.specs.Values.{part_code};
 ghost use Rattle.model.specs.Priority.{path_parts};
-ghost use Rattle.model.specs.Sheet.{closing as closingPhase};
+ghost use Rattle.model.specs.Sheet.{closing as closing_phase};
 ghost use Rattle.model.specs.Reports.{commands_of};
 ghost use Rattle.model.specs.Laws.Appended.{Appended};
 ghost use Rattle.model.specs.Laws.Choosing.{Inside, AllInside};
@@ -149,9 +151,9 @@ pub fn closing(
 )
     requires size { n ≤ 20 }
     requires named { AllInside n choices }
-    requires counted { count ≡ length (closingPhase n (commands_of old) (named_paths n choices)) }
+    requires counted { count ≡ length (closing_phase n (commands_of old) (named_paths n choices)) }
     requires fits { count ≤ 60 }
-    ensures { Appended (map part_code (closingPhase n (commands_of old) (named_paths n choices))) codes.old 0 codes.new count }
+    ensures { Appended (map part_code (closing_phase n (commands_of old) (named_paths n choices))) codes.old 0 codes.new count }
 {
     // Most reports close nothing.
     if count == 0 {

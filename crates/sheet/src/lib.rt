@@ -1,4 +1,6 @@
 // The command sheet (document 01: order sheet) in a lent buffer. Places of the buffer are indices from 0.
+#![tactic(auto)]
+
 ghost use Rattle.std.specs.Prelude.{◌≡◌, ◌≤◌, length};
 ghost use Rattle.model.specs.Values.{outcome_number, outcome_of};
 ghost use Rattle.model.specs.Refusals.{sheet_refusal};

@@ -1,5 +1,7 @@
 // The sources of a bus: which generators may feed, and the order in which a bus tries them (document 01, "Ways and their ranks").
 // Buses and generators are indices from 0, places of a priority too.
+#![tactic(auto)]
+
 ghost use Rattle.std.specs.Prelude.{◌≡◌, ◌&&◌, not, suc, ◌+◌, ◌-◌, ◌≤◌, ◌<◌, length, get_or};
 ghost use Rattle.model.specs.Plant.{fit, stuck_open};
 ghost use Rattle.model.specs.Priority.{source_table};

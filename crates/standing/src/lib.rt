@@ -1,4 +1,6 @@
 // The standing commands of a ring and its locks, for refusal 9. Places of arrays are indices from 0.
+#![tactic(auto)]
+
 ghost use Rattle.std.specs.Prelude.{◌≡◌, not, ◌||◌, ◌≤◌};
 ghost use Rattle.model.specs.Plant.{fit};
 ghost use Rattle.model.specs.Reports.{health_of, commands_of};

@@ -1,4 +1,6 @@
 // The stored cases of a program, and the count of those that differ from the simulation's.
+#![tactic(auto)]
+
 ghost use Rattle.std.specs.Prelude.{◌≡◌, cond, ◌+◌, ◌^◌, ◌≤◌, ◌<◌};
 
 use libc::STDOUT_FILENO;

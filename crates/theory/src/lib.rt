@@ -1,1 +1,2 @@
 // Theorems alone: specs/ has them. No code.
+#![tactic(auto)]

@@ -1,7 +1,9 @@
 // The inner start, step and scan, for callers that hold a ring made by start, steps and scans: what they switch does not depend on load.
+#![tactic(auto)]
+
 ghost use Rattle.std.specs.Prelude.{◌≡◌, false, ◌≤◌, length};
 ghost use Rattle.model.specs.Values.{outcome_number, choice_values};
-ghost use Rattle.model.specs.Reports.{blank_ring, told as toldRing};
+ghost use Rattle.model.specs.Reports.{blank_ring, told as told_ring};
 ghost use Rattle.model.specs.Refusals.{bad_ring, next_sheet, sheet_refusal, start_refusal, step_refusal};
 ghost use Rattle.model.specs.Answers.{reply_by, start_reply, step_reply, call_values};
 ghost use Rattle.model.specs.Scans.{scan_reports, told_all, scan_refusal, scan_reply};
@@ -53,7 +55,7 @@ pub fn step(ring: Ring, report: Report, buffer: &mut [u8]) -> RingAnswer
     ensures answer { result ≡ (step_reply ring report buffer.old).answer }
     ensures bytes { buffer.new ≡ (step_reply ring report buffer.old).buffer }
     ensures number { outcome_number result.outcome ≡ step_refusal ring report (length buffer.old) }
-    ensures values { choice_values result.choices ≡ call_values (step_refusal ring report (length buffer.old)) (toldRing ring report) }
+    ensures values { choice_values result.choices ≡ call_values (step_refusal ring report (length buffer.old)) (told_ring ring report) }
 {
     // 5 and 6 come before the plan, and so before 8.
     match reports::check_report(ring.n, report) {

@@ -1,4 +1,6 @@
 // Stored runs of fault files, held piece by piece against the simulation's text: see tests/make_vectors.py for the layout of a case.
+#![tactic(auto)]
+
 ghost use Rattle.std.specs.Prelude.{◌≡◌, ◌≤◌, ◌<◌, length};
 ghost use Rattle.model.specs.Text.{line_room};
 

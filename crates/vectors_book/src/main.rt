@@ -1,5 +1,7 @@
 // Stored bookings and cancellations, with damaged records, held against the simulation's answers: see tests/make_vectors.py for the layout
 // of a case.
+#![tactic(auto)]
+
 use model::BookingAnswer;
 use tally::Tally;
 

@@ -1,5 +1,7 @@
 // Stored minimal cut sets, with damaged records, buses outside the ring and short buffers, held against the simulation's answers: see
 // tests/make_vectors.py for the layout of a case.
+#![tactic(auto)]
+
 ghost use Rattle.std.specs.Prelude.{◌≤◌, length};
 
 use model::CutSetsAnswer;

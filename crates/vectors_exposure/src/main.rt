@@ -1,5 +1,7 @@
 // Stored chances of a dark hour (document 02, Note 8), with damaged records, buses outside the ring and rates that are turned away, held
 // against the simulation's answers: see tests/make_vectors.py for the layout of a case.
+#![tactic(auto)]
+
 ghost use Rattle.std.specs.Prelude.{not, T};
 ghost use Rattle.std.specs.Float.Ieee.{is_nan};
 

@@ -1,4 +1,6 @@
 // Stored reckonings, held against the simulation's answers: see tests/make_vectors.py for the layout of a case.
+#![tactic(auto)]
+
 use model::{BusFeed, Feed, FeedsAnswer};
 use tally::Tally;
 

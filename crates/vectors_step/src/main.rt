@@ -1,5 +1,7 @@
 // Stored starts and steps, with damaged records and short buffers, held against the simulation's answers: see
 // tests/make_vectors.py for the layout of a case.
+#![tactic(auto)]
+
 ghost use Rattle.std.specs.Prelude.{◌≤◌, length};
 
 use model::StateAnswer;

@@ -1,16 +1,18 @@
 // Walks round the ring, step by step: along the bus breakers of a path, and out from a bus while breakers count as closed.
 // Buses and bus breakers are indices from 0; an owner is a generator's number, from 1, or 0 where there is none.
+#![tactic(auto)]
+
 ghost use Rattle.std.specs.Prelude.{◌≡◌, true, ◌||◌, ◌≤◌, ◌<◌};
-ghost use Rattle.model.specs.Plant.{stuck_closed, up as stepsUp};
+ghost use Rattle.model.specs.Plant.{stuck_closed, up as steps_up};
 ghost use Rattle.walks.specs.Arrays.{at, set_all};
-ghost use Rattle.walks.specs.Walk.{free as mayConnect, clear as clearWalk, previous as busBefore, breaker_beside, bus_beside, outward, closed_by, reach};
+ghost use Rattle.walks.specs.Walk.{free as may_connect, clear as clear_walk, previous as bus_before, breaker_beside, bus_beside, outward, closed_by, reach};
 
 use model::{STUCK_CLOSED, STUCK_OPEN};
 
 // The bus before bus k: "BBn joins Bn and B1".
 fn previous(n: usize, k: usize) -> usize
     requires { (k < n) × (n ≤ 20) }
-    ensures { result ≡ busBefore n k }
+    ensures { result ≡ bus_before n k }
 {
     if k == 0 { n - 1 } else { k - 1 }
 }
@@ -18,7 +20,7 @@ fn previous(n: usize, k: usize) -> usize
 // The number of steps from bus a to bus b through rising bus numbers.
 pub fn up(n: usize, a: usize, b: usize) -> usize
     requires { (a < n) × (b < n) × (n ≤ 20) }
-    ensures { result ≡ stepsUp n a b }
+    ensures { result ≡ steps_up n a b }
 {
     if a <= b { b - a } else { b + n - a }
 }
@@ -45,7 +47,7 @@ pub fn bus_beside(n: usize, k: usize, rising: bool) -> usize
 
 // Whether a bus of this owner may be connected to the generator of this number.
 pub fn free(owner: u8, number: u8) -> bool
-    ensures { result ≡ mayConnect owner number }
+    ensures { result ≡ may_connect owner number }
 {
     if owner != 0 {
         return owner == number;
@@ -64,7 +66,7 @@ pub fn clear(
     steps: usize,
 ) -> bool
     requires { (from < n) × (n ≤ 20) }
-    ensures { result ≡ clearWalk n (at breakers.now) (at owners.now) number from steps }
+    ensures { result ≡ clear_walk n (at breakers.now) (at owners.now) number from steps }
 {
     let mut k = from;
     let mut left = steps;

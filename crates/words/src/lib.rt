@@ -1,4 +1,6 @@
 // Words (document 01, "Fault file and reports"), by their numbers.
+#![tactic(auto)]
+
 ghost use Rattle.std.specs.Prelude.{◌≡◌};
 ghost use Rattle.model.specs.Values.{word_number, word_values};
 ghost use Rattle.model.specs.Reports.{word_named};

@@ -1,1 +1,2 @@
 // Controllers that the demands exclude: definitions and computed facts alone, in specs/.
+#![tactic(auto)]

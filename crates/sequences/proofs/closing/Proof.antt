@@ -2,7 +2,7 @@
 use Prim.Native.Nat.{◌-◌, ◌≤◌}
 use native.Mathlib.Omega.{arith}
 use borrow.Author.Rules.{rules}
-use Rattle.model.specs.Sheet.{closing as closingPhase}
+use Rattle.model.specs.Sheet.{closing as closing_phase}
 use Rattle.model.specs.Reports.{commands_of}
 use Rattle.sequences.specs.Marks.{Listed, listed_none, listed_more}
 use Rattle.sequences.specs.Outward.{named_paths, codes_to, codes_none, codes_more, next_room, full, done, nothing_listed}
@@ -19,7 +19,7 @@ returns : tie.Need-returns invariant-loop decreases-loop
 returns c =
     let s = c.before in
     let a = s.args in
-    nothing_listed (closingPhase a.n (commands_of a.old) (named_paths a.n a.t3)) _ _ s.requires.1.1.0 c.if1.true
+    nothing_listed (closing_phase a.n (commands_of a.old) (named_paths a.n a.t3)) _ _ s.requires.1.1.0 c.if1.true
 
 commanded-requires : tie.Need-commanded-requires invariant-loop decreases-loop
 commanded-requires c κs = search rules
