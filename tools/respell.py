@@ -132,7 +132,7 @@ def turned(text, to, kept=(), fields=None):
     """The text with its words turned, but for those kept and, where fields are given, for what is picked by a dot and is no field."""
 
     def word(m):
-        before = text[: m.start()]
+        before = text[: at + m.start()]
         picked = before.endswith(".") and (before.endswith(LIBRARY_MODULES) or fields is not None and m[0] not in fields)
         return to[m[0]] if m[0] in to and m[0] not in kept and not picked else m[0]
 

@@ -3,7 +3,7 @@ use native.Mathlib.Omega.{arith}
 use lib.ListN.{length-set}
 use borrow.Author.Rules.{rules}
 use Rattle.model.specs.Text.{ascii}
-use Rattle.model.specs.Laws.Appended.{appended_byte, appended-more}
+use Rattle.model.specs.Laws.Appended.{appended_byte, appended_more}
 use Rattle.buses.specs.Buses.{named_most, choice_dark, choice_named}
 use Rattle.buses.proofs.append_choice.Statement.{statement}
 use Rattle.buses.proofs.append_choice.Tie as tie

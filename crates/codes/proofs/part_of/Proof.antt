@@ -1,6 +1,6 @@
 -- `codes::part_of` meets its contract: the codes of a range name the parts of one kind, and no others name a part.
 use borrow.Author.Rules.{rules}
-use Rattle.codes.specs.Answers.{part_in_range, part-outside}
+use Rattle.codes.specs.Answers.{part_in_range, part_outside}
 use Rattle.codes.proofs.part_of.Statement.{statement}
 use Rattle.codes.proofs.part_of.Tie as tie
 

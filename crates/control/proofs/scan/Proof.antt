@@ -8,7 +8,7 @@ use Rattle.model.specs.States.{told_state, state_scan, bad_record}
 use Rattle.model.specs.Laws.Refusals.{good_size}
 use Rattle.model.specs.Laws.Scans.{told_size}
 use Rattle.model.specs.Laws.Bookings.{good_state}
-use Rattle.control.specs.Replies.{on_ring, never-served, bad-refused, good_inner}
+use Rattle.control.specs.Replies.{on_ring, never_served, bad_refused, good_inner}
 use Rattle.control.proofs.scan.Statement.{statement}
 use Rattle.control.proofs.scan.Tie as tie
 

@@ -6,7 +6,7 @@ use Rattle.model.specs.Reports.{blank_ring}
 use Rattle.model.specs.Answers.{start_reply}
 use Rattle.model.specs.States.{state_start, unloaded}
 use Rattle.model.specs.Laws.Refusals.{size_bounds}
-use Rattle.control.specs.Replies.{on_ring, never-served, start_inner, start_refused, none_bookable}
+use Rattle.control.specs.Replies.{on_ring, never_served, start_inner, start_refused, none_bookable}
 use Rattle.control.proofs.start.Statement.{statement}
 use Rattle.control.proofs.start.Tie as tie
 

@@ -9,7 +9,7 @@ use Rattle.model.specs.Scans.{told_all}
 use Rattle.model.specs.States.{told_state, state_step, bad_record}
 use Rattle.model.specs.Laws.Refusals.{good_size}
 use Rattle.model.specs.Laws.Bookings.{good_state}
-use Rattle.control.specs.Replies.{on_ring, never-served, bad-refused, good_inner}
+use Rattle.control.specs.Replies.{on_ring, never_served, bad_refused, good_inner}
 use Rattle.control.proofs.step.Statement.{statement}
 use Rattle.control.proofs.step.Tie as tie
 

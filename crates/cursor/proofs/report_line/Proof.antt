@@ -9,7 +9,7 @@ use Rattle.model.specs.declared.Report.{Report}
 use Rattle.model.specs.declared.ReportAnswer.TheVariants.{Read, Refused, Missing}
 use Rattle.model.specs.Laws.Tests.{never}
 use Rattle.calls.specs.Lines.{same_line}
-use Rattle.files.specs.Served.{Served, file_served, own-whole, has_bytes}
+use Rattle.files.specs.Served.{Served, file_served, own_whole, has_bytes}
 use Rattle.cursor.specs.Run.{report_next, report_sure}
 use Rattle.cursor.proofs.report_line.Statement.{statement}
 use Rattle.cursor.proofs.report_line.Tie as tie

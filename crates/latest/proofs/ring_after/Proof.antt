@@ -4,7 +4,7 @@ use native.Mathlib.Omega.{arith}
 use borrow.Author.Rules.{rules}
 use Rattle.model.specs.declared.FileAnswer.TheVariants.{Served}
 use Rattle.model.specs.Answers.{file_answer}
-use Rattle.latest.specs.Told.{after_refused, after_size, after-served}
+use Rattle.latest.specs.Told.{after_refused, after_size, after_served}
 use Rattle.latest.proofs.ring_after.Statement.{statement}
 use Rattle.latest.proofs.ring_after.Tie as tie
 

@@ -5,7 +5,7 @@ use native.Mathlib.Omega.{arith}
 use lib.ListN.{length}
 use borrow.Author.Rules.{rules}
 use Rattle.model.specs.Laws.Tests.{facts}
-use Rattle.latest.specs.Told.{told_empty, served_length, told-stretches}
+use Rattle.latest.specs.Told.{told_empty, served_length, told_stretches}
 use Rattle.latest.proofs.told_file.Statement.{statement}
 use Rattle.latest.proofs.told_file.Tie as tie
 

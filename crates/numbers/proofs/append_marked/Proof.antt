@@ -4,7 +4,7 @@ use native.Mathlib.Omega.{arith}
 use lib.ListN.{length-set}
 use borrow.Author.Rules.{rules}
 use Rattle.numbers.specs.Numbers.{marked_more}
-use Rattle.model.specs.Laws.Appended.{appended_byte, appended-more}
+use Rattle.model.specs.Laws.Appended.{appended_byte, appended_more}
 use Rattle.numbers.proofs.append_marked.Statement.{statement}
 use Rattle.numbers.proofs.append_marked.Tie as tie
 

@@ -4,7 +4,7 @@ use lib.ListN.{length-set}
 use borrow.Author.Rules.{rules}
 use borrow.Author.Tests.{lt-ltb, le-ltb}
 use Rattle.model.specs.Text.{ascii}
-use Rattle.model.specs.Laws.Appended.{appended_byte, appended-two}
+use Rattle.model.specs.Laws.Appended.{appended_byte, appended_two}
 use Rattle.operations.specs.Operations.{kind_of}
 use Rattle.operations.proofs.append_kind.Statement.{statement}
 use Rattle.operations.proofs.append_kind.Tie as tie

@@ -3,7 +3,7 @@ use native.Mathlib.Omega.{arith}
 use lib.ListN.{length-set}
 use borrow.Author.Rules.{rules}
 use Rattle.model.specs.Text.{ascii}
-use Rattle.model.specs.Laws.Appended.{appended_byte, appended-more}
+use Rattle.model.specs.Laws.Appended.{appended_byte, appended_more}
 use Rattle.operations.proofs.append_operation.Statement.{statement}
 use Rattle.operations.proofs.append_operation.Tie as tie
 

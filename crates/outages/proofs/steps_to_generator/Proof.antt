@@ -8,7 +8,7 @@ use borrow.Author.Rules.{rules}
 use Rattle.model.specs.Plant.{bus_breaker}
 use Rattle.model.specs.Reports.{health_of}
 use Rattle.sources.specs.Sources.{may_feed}
-use Rattle.walks.specs.Walk.{breaker_beside, busBeside, breaker-lt, bus_lt}
+use Rattle.walks.specs.Walk.{breaker_beside, bus_beside, breaker_lt, bus_lt}
 use Rattle.outages.specs.Sides.{Walked, walked_start, walked_open, walked_end, walked_met, walked_on}
 use Rattle.outages.proofs.steps_to_generator.Statement.{statement}
 use Rattle.outages.proofs.steps_to_generator.Tie as tie

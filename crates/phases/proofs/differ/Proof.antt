@@ -5,7 +5,7 @@ use native.Mathlib.Omega.{arith}
 use borrow.Author.Rules.{rules}
 use Rattle.model.specs.Lists.{below, any_of}
 use Rattle.model.specs.Laws.Tests.{compared}
-use Rattle.phases.specs.Codes.{changes, any-more}
+use Rattle.phases.specs.Codes.{changes, any_more}
 use Rattle.phases.proofs.differ.Statement.{statement}
 use Rattle.phases.proofs.differ.Tie as tie
 

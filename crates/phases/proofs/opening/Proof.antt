@@ -4,7 +4,7 @@ use borrow.Author.Rules.{rules}
 use Rattle.model.specs.Sheet.{opening}
 use Rattle.model.specs.Reports.{commands_of}
 use Rattle.model.specs.Laws.Sheet.{closing_by_code}
-use Rattle.phases.specs.Codes.{appended_kinds, counted-kinds}
+use Rattle.phases.specs.Codes.{appended_kinds, counted_kinds}
 use Rattle.phases.proofs.opening.Statement.{statement}
 use Rattle.phases.proofs.opening.Tie as tie
 

@@ -2,7 +2,7 @@
 use mathlib.Core.Path.{refl}
 use Rattle.model.specs.Lists.{below}
 use Rattle.model.specs.Reports.{places}
-use Rattle.model.specs.Answers.{all_dark, refusedAnswer}
+use Rattle.model.specs.Answers.{all_dark, refused_answer}
 use Rattle.rings.proofs.refused.Statement.{statement}
 use Rattle.rings.proofs.refused.Tie as tie
 

@@ -7,7 +7,7 @@ use borrow.Author.Rules.{rules}
 use borrow.Author.Tests.{leb-true, leb-false}
 use Rattle.model.specs.Text.{run_lines}
 use Rattle.model.specs.Laws.Appended.{stored_fits}
-use Rattle.run.specs.Filling.{Filling, filling-none, filling_within, filling_more, passed_less, stored_kept}
+use Rattle.run.specs.Filling.{Filling, filling_none, filling_within, filling_more, passed_less, stored_kept}
 use Rattle.run.proofs.fill.Statement.{statement}
 use Rattle.run.proofs.fill.Tie as tie
 

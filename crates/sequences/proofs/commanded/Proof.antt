@@ -6,7 +6,7 @@ use native.Mathlib.Omega.{arith}
 use lib.ListN.{length-replicate}
 use borrow.Author.Rules.{rules}
 use Rattle.model.specs.Reports.{commands_of}
-use Rattle.sequences.specs.Marks.{HoldsTo, holds-none, holds_more}
+use Rattle.sequences.specs.Marks.{HoldsTo, holds_none, holds_more}
 use Rattle.sequences.proofs.commanded.Statement.{statement}
 use Rattle.sequences.proofs.commanded.Tie as tie
 

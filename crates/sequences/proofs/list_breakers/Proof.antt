@@ -6,7 +6,7 @@ use native.Mathlib.Nat.{sub-zero}
 use native.Mathlib.Omega.{arith}
 use lib.ListN.{length}
 use borrow.Author.Rules.{rules}
-use Rattle.walks.specs.Walk.{outward, breaker-lt, bus-lt}
+use Rattle.walks.specs.Walk.{outward, breaker_lt, bus_lt}
 use Rattle.sequences.specs.Marks.{fresh, Listed, listed_none, listed_more, room_front, room_behind}
 use Rattle.sequences.specs.Outward.{breaker_codes, codes_next, codes_end}
 use Rattle.sequences.proofs.list_breakers.Statement.{statement}

@@ -1,7 +1,7 @@
 -- `list_part`: a code that is not passed over is stored, and passed over from then on.
 use native.Mathlib.Omega.{arith}
 use borrow.Author.Rules.{rules}
-use Rattle.sequences.specs.Marks.{listed_past, listed_new, new-room}
+use Rattle.sequences.specs.Marks.{listed_past, listed_new, new_room}
 use Rattle.sequences.proofs.list_part.Statement.{statement}
 use Rattle.sequences.proofs.list_part.Tie as tie
 

@@ -9,7 +9,7 @@ use Rattle.model.specs.Plant.{generator, generator_breaker, bus_breaker, InRing}
 use Rattle.model.specs.Reports.{commands_of}
 use Rattle.model.specs.Laws.Parts.{ring_more, some_part, no_part}
 use Rattle.model.specs.Laws.Tests.{compared}
-use Rattle.standing.specs.Standing.{differs, anyDiffer}
+use Rattle.standing.specs.Standing.{differs, any_differ}
 use Rattle.standing.proofs.differ.Statement.{statement}
 use Rattle.standing.proofs.differ.Tie as tie
 

@@ -4,7 +4,7 @@ use native.Mathlib.Omega.{arith}
 use borrow.Author.Rules.{rules}
 use Rattle.model.specs.Scans.{scan_reply}
 use Rattle.model.specs.Laws.Tests.{facts}
-use Rattle.transition.specs.Replies.{scan_above, scanned_size, scan-advanced, scan_refused}
+use Rattle.transition.specs.Replies.{scan_above, scanned_size, scan_advanced, scan_refused}
 use Rattle.transition.proofs.scan.Statement.{statement}
 use Rattle.transition.proofs.scan.Tie as tie
 

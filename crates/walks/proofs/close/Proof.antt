@@ -8,7 +8,7 @@ use Prim.Native.Nat.{suc, ◌<◌, ◌-◌}
 use native.Mathlib.Nat.{sub-zero}
 use native.Mathlib.Omega.{arith}
 use Rattle.walks.specs.Arrays.{set_all}
-use Rattle.walks.specs.Walk.{outward, breaker-lt, bus-lt, outward_step, outward_end}
+use Rattle.walks.specs.Walk.{outward, breaker_lt, bus_lt, outward_step, outward_end}
 
 abbrev invariant-loop : tie.invariant-loop
 invariant-loop n closed₀ g rising steps k₀ done₀ closed k done =

@@ -5,7 +5,7 @@ use Prim.Native.Nat.{◌+◌, ◌-◌, ◌<◌}
 use native.Mathlib.Omega.{arith}
 use lib.ListN.{length}
 use Rattle.sources.specs.Table.{table_length, row_at}
-use Rattle.planner.specs.Progress.{kept, serve_dark, serve_source, serve-path}
+use Rattle.planner.specs.Progress.{kept, serve_dark, serve_source, serve_path}
 use Rattle.planner.proofs.progress.serve.Statement.{statement}
 use Rattle.planner.proofs.progress.serve.Tie as tie
 
