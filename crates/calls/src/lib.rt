@@ -10,7 +10,7 @@ ghost use Rattle.calls.specs.Lines.{Shown, Answered};
 use model::{Outcome, Report, Ring, Scan};
 
 // A line in the front of a lent buffer: the ring behind it, and its length.
-#[derive(Drop)]
+#[derive(Clone, Copy)]
 pub struct Line {
     pub ring: Ring,
     pub length: usize,

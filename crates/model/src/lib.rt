@@ -3,7 +3,7 @@
 #![tactic(auto)]
 
 // "A report holds a part, which is a generator, a generator breaker or a bus breaker with its number, and a word."
-#[derive(Drop)]
+#[derive(Clone, Copy)]
 pub enum Part {
     Generator(u8),
     GeneratorBreaker(u8),
@@ -12,7 +12,7 @@ pub enum Part {
 
 // "Words: 0 fit again, 1 stuck off (generators), 2 stuck open, 3 stuck closed (breakers)."; "Word 4 locks it and word 5 unlocks it" (document
 // 02, Note 7), a generator.
-#[derive(Drop)]
+#[derive(Clone, Copy)]
 pub enum Word {
     Fit,
     StuckOff,
@@ -23,7 +23,7 @@ pub enum Word {
 }
 
 // "A report holds a part .. and a word."
-#[derive(Drop)]
+#[derive(Clone, Copy)]
 pub struct Report {
     pub part: Part,
     pub word: Word,
@@ -31,7 +31,7 @@ pub struct Report {
 
 // What the relay scanner "found in a cycle, up to 64 reports, as 64 places and a count; places past the count are not read" (document 02).
 // A byte counts, so that a count above 64 can be handed in and refused.
-#[derive(Drop)]
+#[derive(Clone, Copy)]
 pub struct Scan {
     pub reports: [Report; 64],
     pub count: u8,
@@ -49,7 +49,7 @@ pub const STUCK_CLOSED: u8 = 3;
 
 // The health of every part, a byte each, so that a damaged record can be held and refused; and "the lock beside the health" (document 02,
 // Note 7): true is locked.
-#[derive(Drop)]
+#[derive(Clone, Copy)]
 pub struct Health {
     pub generators: [u8; 20],
     pub generator_breakers: [u8; 20],
@@ -58,7 +58,7 @@ pub struct Health {
 }
 
 // The command (document 01: order) of every part: true is on or closed.
-#[derive(Drop)]
+#[derive(Clone, Copy)]
 pub struct Commands {
     pub generators: [bool; 20],
     pub generator_breakers: [bool; 20],
@@ -66,7 +66,7 @@ pub struct Commands {
 }
 
 // What switching needs of a ring state (document 01: ring record): "n, each part's health and its standing order".
-#[derive(Drop)]
+#[derive(Clone, Copy)]
 pub struct Ring {
     pub n: u8,
     pub health: Health,
@@ -75,7 +75,7 @@ pub struct Ring {
 
 // "A booking has a number from 0 to 65535, a bus and 1 to 100,000 watts" (document 02). Its bus and its watts have more values, so that
 // those outside the bounds can be handed in and refused.
-#[derive(Drop)]
+#[derive(Clone, Copy)]
 pub struct Booking {
     pub number: u16,
     pub bus: u8,
@@ -84,7 +84,7 @@ pub struct Booking {
 
 // "The ring record holds the live bookings", in its first places, and "gives every generator's watts, .. and the watts on dark buses"
 // (document 02).
-#[derive(Drop)]
+#[derive(Clone, Copy)]
 pub struct Load {
     pub bookings: [Booking; 64],
     pub live: u8,
@@ -93,14 +93,14 @@ pub struct Load {
 }
 
 // The ring state (document 01: ring record) as the calls take it and give it: the ring, and the load booked on it.
-#[derive(Drop)]
+#[derive(Clone, Copy)]
 pub struct RingState {
     pub ring: Ring,
     pub load: Load,
 }
 
 // What a bus is fed by: its own generator, or another by its high or low path (document 01: way).
-#[derive(Drop)]
+#[derive(Clone, Copy)]
 pub enum Choice {
     Dark,
     Own(u8),
@@ -109,14 +109,14 @@ pub enum Choice {
 }
 
 // An array of enums as a struct's field is held as an array of structs.
-#[derive(Drop)]
+#[derive(Clone, Copy)]
 pub struct BusChoice {
     pub choice: Choice,
 }
 
 // "For each bus its answer is one of three: dark, fed by one generator, or a clash that names the two lowest generators
 // feeding it."
-#[derive(Drop)]
+#[derive(Clone, Copy)]
 pub enum Feed {
     Dark,
     Fed(u8),
@@ -124,20 +124,20 @@ pub enum Feed {
 }
 
 // The answer of one bus.
-#[derive(Drop)]
+#[derive(Clone, Copy)]
 pub struct BusFeed {
     pub feed: Feed,
 }
 
 // Served, or sent back unserved with its number.
-#[derive(Drop)]
+#[derive(Clone, Copy)]
 pub enum Outcome {
     Served,
     Refused(u8),
 }
 
 // What an inner start, step or scan answers: the ring alone.
-#[derive(Drop)]
+#[derive(Clone, Copy)]
 pub struct RingAnswer {
     pub outcome: Outcome,
     pub ring: Ring,
@@ -145,7 +145,7 @@ pub struct RingAnswer {
 }
 
 // What a start, a step or a scan answers.
-#[derive(Drop)]
+#[derive(Clone, Copy)]
 pub struct StateAnswer {
     pub outcome: Outcome,
     pub state: RingState,
@@ -153,21 +153,21 @@ pub struct StateAnswer {
 }
 
 // What a booking or a cancellation answers.
-#[derive(Drop)]
+#[derive(Clone, Copy)]
 pub struct BookingAnswer {
     pub outcome: Outcome,
     pub state: RingState,
 }
 
 // What the plant reckoning answers.
-#[derive(Drop)]
+#[derive(Clone, Copy)]
 pub struct FeedsAnswer {
     pub outcome: Outcome,
     pub buses: [BusFeed; 20],
 }
 
 // What the list of minimal cut sets answers: how many stand in the sheet.
-#[derive(Drop)]
+#[derive(Clone, Copy)]
 pub struct CutSetsAnswer {
     pub outcome: Outcome,
     pub count: u16,
@@ -175,7 +175,7 @@ pub struct CutSetsAnswer {
 
 // "Each part has a rate as its data sheet gives it: a chance per hour, a mean number of hours between failures, or unrated." (document 02,
 // Note 8). Any float can be handed in, so that one outside the bounds is refused.
-#[derive(Drop)]
+#[derive(Clone, Copy)]
 pub enum Rate {
     Chance(f64),
     MeanHours(f64),
@@ -183,13 +183,13 @@ pub enum Rate {
 }
 
 // The rate of one part.
-#[derive(Drop)]
+#[derive(Clone, Copy)]
 pub struct PartRate {
     pub rate: Rate,
 }
 
 // The rate of every part.
-#[derive(Drop)]
+#[derive(Clone, Copy)]
 pub struct Rates {
     pub generators: [PartRate; 20],
     pub generator_breakers: [PartRate; 20],
@@ -197,7 +197,7 @@ pub struct Rates {
 }
 
 // "The answer carries that sum, the largest product and the number of sets." (document 02, Note 8)
-#[derive(Drop)]
+#[derive(Clone, Copy)]
 pub struct Exposure {
     pub sum: f64,
     pub largest: f64,
@@ -205,35 +205,35 @@ pub struct Exposure {
 }
 
 // What the call for a bus's chance of a dark hour answers.
-#[derive(Drop)]
+#[derive(Clone, Copy)]
 pub struct ExposureAnswer {
     pub outcome: Outcome,
     pub exposure: Exposure,
 }
 
 // What the call for the ring after a fault file's last report answers.
-#[derive(Drop)]
+#[derive(Clone, Copy)]
 pub struct LatestAnswer {
     pub outcome: Outcome,
     pub ring: Ring,
 }
 
 // The part that a code names in a ring, or refusal 5.
-#[derive(Drop)]
+#[derive(Clone, Copy)]
 pub enum PartAnswer {
     Named(Part),
     Refused(u8),
 }
 
 // The word that a byte names, or refusal 6.
-#[derive(Drop)]
+#[derive(Clone, Copy)]
 pub enum WordAnswer {
     Named(Word),
     Refused(u8),
 }
 
 // A report that stands at a place of the fault file, or its refusal, or no report there.
-#[derive(Drop)]
+#[derive(Clone, Copy)]
 pub enum ReportAnswer {
     Read(Report),
     Refused(u8),
@@ -241,21 +241,21 @@ pub enum ReportAnswer {
 }
 
 // A whole fault file's number of buses and of reports, or its first refusal.
-#[derive(Drop)]
+#[derive(Clone, Copy)]
 pub enum FileAnswer {
     Served(u8, usize),
     Refused(u8),
 }
 
 // How far the printed run of a file has come: the lines passed, of which a header or a refusal is one, and the ring behind them.
-#[derive(Drop)]
+#[derive(Clone, Copy)]
 pub struct RunCursor {
     pub place: usize,
     pub ring: Ring,
 }
 
 // A piece of a printed run in the front of a lent buffer: the cursor behind it, its length, and whether more follows.
-#[derive(Drop)]
+#[derive(Clone, Copy)]
 pub struct RunPiece {
     pub cursor: RunCursor,
     pub length: usize,

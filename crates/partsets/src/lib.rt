@@ -12,7 +12,7 @@ ghost use Rattle.partsets.specs.Minimal.{NoneCounts};
 use model::Health;
 
 // The places of its parts, rising, and how many there are: "at most three further faults".
-#[derive(Drop)]
+#[derive(Clone, Copy)]
 pub struct PartSet {
     pub places: [usize; 3],
     pub count: usize,

@@ -9,14 +9,14 @@ ghost use Rattle.theory.specs.Proofs.Paths.{path_to};
 ghost use Rattle.paths.specs.Search.{passes_by, tried_by, candidate_by, path_found, path_count, path_rises, span_of};
 
 // What a search finds: a path's generator, and whether the path runs through rising bus numbers.
-#[derive(Drop)]
+#[derive(Clone, Copy)]
 pub enum Found {
     Nothing,
     Path { source: usize, rising: bool },
 }
 
 // The bus breakers of a path: the bus from which they rise, and how many there are.
-#[derive(Drop)]
+#[derive(Clone, Copy)]
 pub struct Span {
     pub from: usize,
     pub steps: usize,

@@ -12,7 +12,7 @@ ghost use Rattle.phases.specs.Codes.{changes, opens, closes, codes, opening_code
 use model::Commands;
 
 // How many parts each phase has.
-#[derive(Drop)]
+#[derive(Clone, Copy)]
 pub struct Counts {
     pub opening: usize,
     pub closing: usize,

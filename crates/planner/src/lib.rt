@@ -12,7 +12,7 @@ use model::{BusChoice, Choice, Commands, Health};
 mod progress;
 
 // What a plan gives: each bus's choice and each part's command.
-#[derive(Drop)]
+#[derive(Clone, Copy)]
 pub struct Planned {
     pub choices: [BusChoice; 20],
     pub commands: Commands,

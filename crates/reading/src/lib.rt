@@ -8,7 +8,7 @@ ghost use Rattle.model.specs.Text.{read_size};
 use libc::STDIN_FILENO;
 
 // What was read: how many bytes, and whether a read failed.
-#[derive(Drop)]
+#[derive(Clone, Copy)]
 pub struct Input {
     pub size: usize,
     pub failed: bool,
