@@ -353,7 +353,7 @@ pub all_ready : {n : ℕ} {ring : Ring} {P : PlantState} → n ≤ largest → R
     → Ready n (told_all ring rs) (after_words rs P)
 unfolding told_all after_words
 all_ready small ready [] = ready
-all_ready small ready (r ∷ rs) = all_ready small (told_ready small ready r) rs
+all_ready {ring = ring} small ready (r ∷ rs) = all_ready {ring = told ring r} small (told_ready small ready r) rs
 
 -- .. all of its reports
 pub call_ready : {n : ℕ} {W : World} → n ≤ largest → Steady n W → (call : Call)
@@ -430,6 +430,7 @@ judge_report n r small =
 
 -- among good reports none is the first bad one
 none_first : {n : ℕ} {rs : List Report} → AllGood n rs → (j : ℕ) → FirstBad n rs j → ⊥
+none_first no_reports j f = elim f [ ]
 none_first (good_and g a) j (here b) = none_bad g j b
 none_first (good_and g a) j (later h f) = none_first a j f
 

@@ -180,7 +180,7 @@ module _ {n : ℕ} {ring : Ring} (small : n ≤ largest) (k : Kinds n ring) (r :
 pub all_kinds : {n : ℕ} {ring : Ring} {rs : List Report} → n ≤ largest → Kinds n ring → AllGood n rs → Kinds n (told_all ring rs)
 unfolding told_all
 all_kinds small k no_reports = k
-all_kinds small k (good_and {r = r} g a) = all_kinds small (told_kinds small k r g) a
+all_kinds {ring = ring} small k (good_and {r = r} g a) = all_kinds {ring = told ring r} small (told_kinds small k r g) a
 
 -- what a buffer decodes to is one thing
 pub same_phases : {o : Option Phases} {x y : Phases} → o ≡ some x → o ≡ some y → x ≡ y
