@@ -2,9 +2,8 @@
 use mathlib.Core.Path.{refl}
 use Rattle.model.specs.Lists.{below}
 use Rattle.model.specs.Reports.{places, health_places, command_places, blank_ring}
-use Rattle.rings.proofs.blank.Statement.{statement}
-use Rattle.rings.proofs.blank.Tie as tie
+use Rattle.rings.proofs.blank.Goals as goal
 
-pub blank-spec : {M : Type 1} → statement M
+pub returns : goal.returns
 unfolding below places health_places command_places blank_ring
-blank-spec = tie.close (tie.spec (λ c. refl))
+returns c = refl

@@ -3,9 +3,8 @@ use mathlib.Core.Path.{refl}
 use Rattle.model.specs.Lists.{below}
 use Rattle.model.specs.Reports.{places}
 use Rattle.model.specs.Answers.{all_dark, refused_answer}
-use Rattle.rings.proofs.refused.Statement.{statement}
-use Rattle.rings.proofs.refused.Tie as tie
+use Rattle.rings.proofs.refused.Goals as goal
 
-pub refused-spec : {M : Type 1} → statement M
+pub returns : goal.returns
 unfolding below places all_dark refused_answer
-refused-spec = tie.close (tie.spec (λ c. refl))
+returns c = refl

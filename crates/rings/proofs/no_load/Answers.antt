@@ -3,9 +3,8 @@ use mathlib.Core.Path.{refl}
 use Rattle.model.specs.Lists.{below}
 use Rattle.model.specs.Reports.{places}
 use Rattle.model.specs.Bookings.{no_load}
-use Rattle.rings.proofs.no_load.Statement.{statement}
-use Rattle.rings.proofs.no_load.Tie as tie
+use Rattle.rings.proofs.no_load.Goals as goal
 
-pub no-load-spec : {M : Type 1} → statement M
+pub returns : goal.returns
 unfolding below places no_load
-no-load-spec = tie.close (tie.spec (λ c. refl))
+returns c = refl
