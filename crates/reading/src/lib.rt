@@ -1,11 +1,11 @@
-// A fault file from standard input, for the programs that take one.
+// What is read from standard input or a file, in a lent buffer; of a fault file as much as decides its run.
 #![tactic(auto)]
 
 ghost use Rattle.std.specs.Prelude.{◌≡◌, length};
-ghost use Rattle.io.specs.Counts.{IsPrefixLen};
+ghost use Rattle.reading.specs.Counts.{IsPrefixLen};
 ghost use Rattle.model.specs.Text.{read_size};
 
-use libc::STDIN_FILENO;
+use std::io::Read;
 
 // What was read: how many bytes, and whether a read failed.
 #[derive(Clone, Copy)]
@@ -14,21 +14,34 @@ pub struct Input {
     pub failed: bool,
 }
 
-// Reads as much of the file as decides its run. A read that gives no byte is the end of the input.
-pub fn read_file(file: &mut [u8]) -> Input
-    requires { length file.old ≡ read_size }
-    ensures { IsPrefixLen result.size file.new }
+// Reads until the buffer is full, the input ends or a read fails. A read that gives no byte is the end of the input.
+pub fn read_full<R: Read>(source: &mut R, buffer: &mut [u8]) -> Input
+    ensures { IsPrefixLen result.size buffer.new }
 {
     let mut size = 0;
-    while size < file.len() {
-        let got = libc::read(STDIN_FILENO, &mut file[size..]);
-        let more = io::count(got, &file[size..]);
-        if more == 0 {
-            let failed = got < 0;
-            return Input { size, failed };
+    while size < buffer.len() {
+        match source.read(&mut buffer[size..]) {
+            Ok(more) => {
+                if more == 0 {
+                    let failed = false;
+                    return Input { size, failed };
+                }
+                size += more;
+            }
+            Err(_) => {
+                let failed = true;
+                return Input { size, failed };
+            }
         }
-        size += more;
     }
     let failed = false;
     Input { size, failed }
+}
+
+// Reads as much of the file as decides its run.
+pub fn read_file<R: Read>(source: &mut R, file: &mut [u8]) -> Input
+    requires { length file.old ≡ read_size }
+    ensures { IsPrefixLen result.size file.new }
+{
+    read_full(source, file)
 }

@@ -5,10 +5,8 @@
 ghost use Rattle.std.specs.Prelude.{◌≤◌, length};
 ghost use Rattle.model.specs.Text.{line_room};
 
-use libc::{STDERR_FILENO, STDOUT_FILENO};
-
 // Prints the run of a file, and answers whether all of it could be written.
-fn print_run(file: &[u8], out: &mut [u8]) -> bool
+fn print_run(rt: &impl Print, file: &[u8], out: &mut [u8]) -> bool
     requires { line_room ≤ length out.old }
 {
     let mut cursor = run::begin();
@@ -16,7 +14,7 @@ fn print_run(file: &[u8], out: &mut [u8]) -> bool
     while more {
         let piece = run::fill(cursor, file, out);
         let length = piece.length;
-        if !io::write_all(STDOUT_FILENO, &out[..length]) {
+        if rt.write_all(&out[..length]).is_err() {
             return false;
         }
         cursor = piece.cursor;
@@ -25,19 +23,16 @@ fn print_run(file: &[u8], out: &mut [u8]) -> bool
     true
 }
 
-fn main() {
+fn main(rt: HostRuntime) {
     let mut file = [0u8; 8196];
-    let input = reading::read_file(&mut file);
+    let input = reading::read_file(&mut rt.stdin(), &mut file);
     if input.failed {
-        io::write_all(STDERR_FILENO, b"ringctl: standard input cannot be read\n");
+        let _ = rt.eprintln("ringctl: standard input cannot be read");
         return;
     }
     let size = input.size;
-    let mut out = io::large_buffer();
-    if !print_run(&file[..size], &mut out) {
-        io::write_all(
-            STDERR_FILENO,
-            b"ringctl: standard output cannot be written\n",
-        );
+    let mut out = [0u8; 65536];
+    if !print_run(&rt, &file[..size], &mut out) {
+        let _ = rt.eprintln("ringctl: standard output cannot be written");
     }
 }

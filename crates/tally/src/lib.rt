@@ -3,7 +3,8 @@
 
 ghost use Rattle.std.specs.Prelude.{◌≡◌, cond, ◌+◌, ◌^◌, ◌≤◌, ◌<◌};
 
-use libc::STDOUT_FILENO;
+use std::rt::Files;
+use std::{fs, io};
 
 // How many cases were run, and how many differ.
 #[derive(Clone, Copy)]
@@ -12,12 +13,12 @@ pub struct Tally {
     pub differ: u64,
 }
 
-// The file of the cases: the gate puts data/cases beside the program. What a descriptor leads to lies outside: the kit's call ensures
-// nothing either.
-pub fn stored() -> i32
+// The file of the cases: the gate puts data/cases beside the program. What a file holds lies outside: the library's call ensures nothing
+// either.
+pub fn stored<R: Files>(rt: &R) -> io::Result<R::File>
     ensures { Unit {0} }
 {
-    os::open_read(b"cases")
+    fs::open(rt, "cases")
 }
 
 // A case more, and one that differs more unless it agrees.
@@ -34,11 +35,10 @@ pub fn counted(tally: Tally, agrees: bool) -> Tally
 }
 
 // The line that a program prints. The gate holds it to the program's stdout; no contract can speak of what was written.
-pub fn print(tally: Tally)
+pub fn print(rt: &impl Print, tally: Tally) -> io::Result<()>
     ensures { Unit {0} }
 {
-    io::print_decimal(STDOUT_FILENO, tally.cases);
-    io::write_all(STDOUT_FILENO, b" cases, ");
-    io::print_decimal(STDOUT_FILENO, tally.differ);
-    io::write_all(STDOUT_FILENO, b" differ\n");
+    let cases = tally.cases;
+    let differ = tally.differ;
+    println!(rt; "{cases} cases, {differ} differ")
 }

@@ -1,0 +1,2 @@
+-- How many bytes of a buffer a read has filled.
+pub mod Counts
