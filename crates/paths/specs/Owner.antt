@@ -1,6 +1,6 @@
 -- The owner of each bus while buses are served: the number of the chosen generator that it is connected to, 0 where there is
 -- none. By it one walk along a path says whether the path is permitted. Buses, generators and breakers are indices from 0.
-use Rattle.std.specs.Prelude.{◌≡◌, Bool, true, false, not, ◌&&◌, cond, ◌⊎◌, ◌≢◌, List, ◌∷◌, eqb}
+use Rattle.std.specs.Prelude.{◌≡◌, Bool, true, false, ◌&&◌, cond, ◌⊎◌, ◌≢◌, List, ◌∷◌, eqb}
 use Rattle.std.proofs.Math.Path.{refl}
 use Rattle.std.proofs.Common.{sym, ◌∙◌, ap, inl, inr, eqb-true, eq-eqb}
 use mathlib.Core.List.Memᴰ
