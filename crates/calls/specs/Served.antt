@@ -26,7 +26,7 @@ use Rattle.model.specs.Laws.Refusals.{inside, good_size, served_refused}
 use Rattle.model.specs.Laws.Scans.{told_size}
 use Rattle.model.specs.Laws.Choosing.{Inside}
 use Rattle.theory.specs.Proofs.Choosing.{choices_inside}
-use Rattle.theory.specs.Theorems.Closing.{closing_at, sheet_fits}
+use Rattle.theory.proofs.Theorems.Closing.{closing_at, sheet_fits}
 use Rattle.demands.specs.Proofs.Operations.{opening_at}
 use Rattle.demands.specs.Theorems.Records.{inner_start_good, inner_step_good, inner_scan_good}
 use Rattle.buses.specs.Buses.{AllNamed, Named}

@@ -27,8 +27,8 @@ use Rattle.model.specs.Laws.Parts.{parts_length}
 use Rattle.model.specs.Laws.CutSets.{bytes_count}
 use Rattle.model.specs.Laws.Appended.{Appended, appended_none, appended_more}
 use Rattle.model.specs.Laws.Tests.{dec}
-use Rattle.theory.specs.Proofs.Subsets.{size_at}
-use Rattle.theory.specs.Theorems.CutSets.{Idle, idle_superfluous}
+use Rattle.theory.proofs.Proofs.Subsets.{size_at}
+use Rattle.theory.proofs.Theorems.CutSets.{Idle, idle_superfluous}
 use Rattle.faults.specs.Places.{part_at, parts_left, parts_ended}
 use Rattle.partsets.specs.Sets.{Held, with_place, parts_of, held_more, parts_more}
 use Rattle.partsets.specs.Minimal.{NoneCounts}

@@ -11,7 +11,7 @@ use Rattle.model.specs.CutSets.{can_fail, further_faults, minimal, of_size, size
 use Rattle.model.specs.Laws.Lists.{flat_append, keep_append, keep_length}
 use Rattle.model.specs.Laws.Parts.{parts_length}
 use Rattle.model.specs.Laws.Appended.{Appended, appended_none, appended_more}
-use Rattle.theory.specs.Proofs.Subsets.{sizes_next}
+use Rattle.theory.proofs.Proofs.Subsets.{sizes_next}
 use Rattle.partsets.specs.Sets.{none_held}
 use Rattle.cutsets.specs.Search.{found, found_from, Stored, most, size_count, most_le, more_found, Searching}
 

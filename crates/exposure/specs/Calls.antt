@@ -29,8 +29,8 @@ use Rattle.model.specs.Laws.Tests.{dec}
 use Rattle.model.specs.Laws.Refusals.{outcome_number_lem, good_size, served_refused}
 use Rattle.model.specs.Laws.Bookings.{good_state}
 use Rattle.model.specs.Laws.CutSets.{cut_sheet_length, Few}
-use Rattle.theory.specs.Theorems.CutSets.{listed}
-use Rattle.theory.specs.Theorems.Exposure.{answer_numbers}
+use Rattle.theory.proofs.Theorems.CutSets.{listed}
+use Rattle.theory.proofs.Theorems.Exposure.{answer_numbers}
 use Rattle.cutsets.specs.Sizes.{cut_sets_few}
 use Rattle.exposure.specs.Bytes.{figures_of, unrated_bytes, refused_exposure, sheet_answer}
 use Rattle.exposure.specs.Sets.{figures_are, unrated_are}

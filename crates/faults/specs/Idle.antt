@@ -8,7 +8,7 @@ use Rattle.model.specs.Priority.{Path}
 use Rattle.model.specs.CutSets.{can_fail}
 use Rattle.model.specs.Laws.Tests.{contra, not_of, and_left, and_right, and_intro}
 use Rattle.theory.specs.Proofs.Paths.{generator_on, generator_breaker_on, bus_breaker_on, path_at}
-use Rattle.theory.specs.Theorems.CutSets.{Supplies, Idle}
+use Rattle.theory.proofs.Theorems.CutSets.{Supplies, Idle}
 use Rattle.sources.specs.Sources.{may_feed}
 
 -- r says that a part can fail; where it is false the part is on no path to any bus

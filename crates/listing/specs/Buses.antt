@@ -23,7 +23,7 @@ use Rattle.model.specs.Laws.Refusals.{good_size, bus_inside, served_refused}
 use Rattle.model.specs.Laws.Bookings.{unloaded_bad}
 use Rattle.model.specs.Laws.CutSets.{cut_sheet_length}
 use Rattle.model.specs.Laws.Appended.{Appended, appended_all, appended_length}
-use Rattle.theory.specs.Theorems.CutSets.{listed}
+use Rattle.theory.proofs.Theorems.CutSets.{listed}
 use Rattle.cutsets.specs.Sizes.{cut_sets_few}
 use Rattle.cutlines.specs.Sets.{text_of, text_length, cut_text_lem}
 

@@ -27,7 +27,7 @@ use Rattle.theory.specs.Proofs.Paths.{
   bus_breaker_on,
 }
 use Rattle.theory.specs.Theorems.Connected.{Arc, leads_arcs}
-use Rattle.theory.specs.Theorems.CutSets.{dark_exactly, Supplies, Disjoint, no_path, one_more_path, disjoint_faults}
+use Rattle.theory.proofs.Theorems.CutSets.{dark_exactly, Supplies, Disjoint, no_path, one_more_path, disjoint_faults}
 use Rattle.sources.specs.Sources.{may_feed}
 use Rattle.walks.specs.Walk.{Closed}
 use Rattle.outages.specs.Sides.{passable, Leading, Met, found_at, side_paths, steps_some}

@@ -11,8 +11,8 @@ use Rattle.model.specs.Choosing.{plan}
 use Rattle.model.specs.CutSets.{with_faults, darkens, minimal}
 use Rattle.model.specs.Laws.Tests.{dec}
 use Rattle.model.specs.Laws.CutSets.{faults_both}
-use Rattle.theory.specs.Proofs.Subsets.{sub_front, without, without_proper}
-use Rattle.theory.specs.Theorems.CutSets.{not_dark, not_least, minimal_one}
+use Rattle.theory.proofs.Proofs.Subsets.{sub_front, without, without_proper}
+use Rattle.theory.proofs.Theorems.CutSets.{not_dark, not_least, minimal_one}
 use Rattle.outages.specs.Least.{Least}
 use Rattle.partsets.specs.Sets.{parts_of, parts_from, all_faults, other_faults}
 

@@ -15,7 +15,7 @@ use Rattle.model.specs.Laws.Tests.{dec_eq}
 use Rattle.model.specs.Laws.Lists.{map_within}
 use Rattle.model.specs.Laws.CutSets.{faults_both}
 use Rattle.model.specs.Laws.Appended.{Appended, appended_one, appended_two}
-use Rattle.theory.specs.Proofs.Subsets.{without}
+use Rattle.theory.proofs.Proofs.Subsets.{without}
 use Rattle.faults.specs.Places.{part_at}
 
 -- the set with one part more, at the next index

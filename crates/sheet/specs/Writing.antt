@@ -21,7 +21,7 @@ use Rattle.model.specs.Laws.Parts.{parts_at, command_places_lem}
 use Rattle.model.specs.Laws.Sheet.{sheet_of_length, closing_by_code}
 use Rattle.theory.specs.Proofs.Choosing.{choices_inside}
 use Rattle.theory.specs.Theorems.Locality.{Agree, opening_ext}
-use Rattle.theory.specs.Theorems.Closing.{closing_count, sheet_fits}
+use Rattle.theory.proofs.Theorems.Closing.{closing_count, sheet_fits}
 use Rattle.phases.specs.Codes.{opening_codes}
 use Rattle.layout.specs.Layout.{layout, sheet_layout}
 use Rattle.sequences.specs.Outward.{named_paths, closing_named}

@@ -2,5 +2,3 @@
 pub mod Geometry
 pub mod Paths
 pub mod Choosing
-pub mod Subsets
-pub mod Floats

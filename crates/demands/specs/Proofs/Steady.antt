@@ -27,7 +27,7 @@ use Rattle.model.specs.Laws.Tests.{contra, dec, dec_lt}
 use Rattle.model.specs.Laws.Lists.{any_false, below_lt, map_in}
 use Rattle.model.specs.Laws.Parts.{parts_at, command_places_lem}
 use Rattle.theory.specs.Theorems.Locality.{Agree, SameHealth, choices_ext, commands_ext, commanded_in_ring}
-use Rattle.theory.specs.Theorems.Closing.{closing_at, closing_in, sheet_ext}
+use Rattle.theory.proofs.Theorems.Closing.{closing_at, closing_in, sheet_ext}
 use Rattle.theory.specs.Theorems.Interruption.{Fewer}
 use Rattle.demands.specs.Statements.Demand3.{
   PlantState,

@@ -87,7 +87,7 @@ use Rattle.demands.specs.Statements.Demand3.{
   Holds,
   Demand3,
 }
-use Rattle.theory.specs.Theorems.Closing.{closing_at}
+use Rattle.theory.proofs.Theorems.Closing.{closing_at}
 use Rattle.demands.specs.Proofs.Operations.{opening_at}
 use Rattle.demands.specs.Proofs.Standing.{same_phases}
 use Rattle.demands.specs.Proofs.Answering.{Judged, met, fine, judge_start, judge_call, CallFine}

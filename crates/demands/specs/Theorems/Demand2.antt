@@ -19,7 +19,7 @@ use Rattle.model.specs.Laws.Choosing.{choices_at}
 use Rattle.model.specs.Laws.Parts.{parts_rise}
 use Rattle.theory.specs.Proofs.Choosing.{on_in}
 use Rattle.theory.specs.Theorems.Feeds.{commanded_at}
-use Rattle.theory.specs.Theorems.Closing.{closing_at, closing_in}
+use Rattle.theory.proofs.Theorems.Closing.{closing_at, closing_in}
 use Rattle.demands.specs.Statements.Demand3.{PlantState, Operation, operation, is_served, Performed, performed}
 use Rattle.demands.specs.Proofs.Operations.{any_order, operation_at, opening_at, opening_in}
 use Rattle.demands.specs.Proofs.Steady.{phases_of, Replied, both_done}

@@ -18,7 +18,7 @@ use Rattle.model.specs.Reports.{health_of}
 use Rattle.model.specs.Laws.Tests.{contra, dec}
 use Rattle.model.specs.Laws.Lists.{map_at}
 use Rattle.model.specs.Laws.Parts.{at_index, same_eq}
-use Rattle.theory.specs.Theorems.Closing.{closing_at}
+use Rattle.theory.proofs.Theorems.Closing.{closing_at}
 use Rattle.theory.specs.Theorems.Interruption.{on_fit}
 use Rattle.demands.specs.Statements.Demand3.{
   Controller,

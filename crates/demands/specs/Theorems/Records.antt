@@ -98,7 +98,7 @@ use Rattle.model.specs.Laws.Parts.{at_index, parts_in, parts_at, same_eq, same_r
 use Rattle.model.specs.Laws.Refusals.{good_size}
 use Rattle.model.specs.Laws.Bookings.{Bookable, AllBookable, unloaded_bad}
 use Rattle.theory.specs.Theorems.Locality.{SameHealth, commands_ext, commands_held}
-use Rattle.theory.specs.Theorems.Closing.{sheet_fits}
+use Rattle.theory.proofs.Theorems.Closing.{sheet_fits}
 use Rattle.demands.specs.Statements.Demand3.{
   PlantState,
   fresh_plant,

@@ -38,7 +38,7 @@ use Rattle.model.specs.Laws.Refusals.{good_size}
 use Rattle.model.specs.Laws.Calls.{or_nothing, step_refusal_lem, scan_refusal_lem}
 use Rattle.model.specs.Laws.Scans.{told_size, told_standing}
 use Rattle.theory.specs.Theorems.Locality.{commanded_in_ring, opening_ext}
-use Rattle.theory.specs.Theorems.Closing.{sequence_exactly}
+use Rattle.theory.proofs.Theorems.Closing.{sequence_exactly}
 use Rattle.demands.specs.Statements.Demand3.{step, scan, is_served, AllGood, no_reports, good_and}
 use Rattle.demands.specs.Statements.Records.{Made, stepped, Arrays}
 use Rattle.demands.specs.Statements.Scans.{Singly, no_step, first_step}

@@ -9,7 +9,7 @@ use native.Mathlib.Omega.{arith}
 use lib.ListN.{length}
 use Rattle.model.specs.Reports.{health_of}
 use Rattle.model.specs.CutSets.{darkens}
-use Rattle.theory.specs.Proofs.Subsets.{without}
+use Rattle.theory.proofs.Proofs.Subsets.{without}
 use Rattle.partsets.specs.Sets.{parts_of, parts_count}
 use Rattle.partsets.specs.Minimal.{dark_after, dark_without, lit, larger, least}
 use Rattle.partsets.proofs.is_minimal.Statement.{statement}

@@ -176,7 +176,7 @@ use Rattle.model.specs.Laws.Refusals.{outcome_number_lem}
 use Rattle.model.specs.Laws.Digits.{hex_length}
 use Rattle.theory.specs.Statements.Recipe.{by_kind}
 use Rattle.theory.specs.Statements.Numbers.{NeverGiven}
-use Rattle.theory.specs.Theorems.Exposure.{rated}
+use Rattle.theory.proofs.Theorems.Exposure.{rated}
 
 -- ---- of conditions
 

@@ -49,8 +49,8 @@ use Rattle.model.specs.Laws.Refusals.{first_unmet, good_size}
 use Rattle.model.specs.Laws.Bookings.{good_state}
 use Rattle.theory.specs.Statements.Exposure.{Figures}
 use Rattle.theory.specs.Statements.Recipe.{by_kind}
-use Rattle.theory.specs.Theorems.CutSets.{listed}
-use Rattle.theory.specs.Proofs.Floats.{
+use Rattle.theory.proofs.Theorems.CutSets.{listed}
+use Rattle.theory.proofs.Proofs.Floats.{
   Portion,
   portion_of,
   portion_le,

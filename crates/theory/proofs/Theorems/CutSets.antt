@@ -72,7 +72,7 @@ use Rattle.theory.specs.Proofs.Paths.{
   line_on,
 }
 use Rattle.theory.specs.Proofs.Choosing.{Usable}
-use Rattle.theory.specs.Proofs.Subsets.{
+use Rattle.theory.proofs.Proofs.Subsets.{
   Within,
   sub_within,
   sub_none,

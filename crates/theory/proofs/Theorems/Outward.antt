@@ -70,7 +70,7 @@ use Rattle.model.specs.Text.{
 use Rattle.theory.specs.Statements.Settled.{health_after}
 use Rattle.theory.specs.Statements.Outward.{Outward, ClosingPhase, closing_phases, closes, example_file, example_run}
 use Rattle.theory.specs.Statements.EmptyFile.{empty_run}
-use Rattle.theory.specs.Theorems.Closing.{closing_same, closing_once, sheet_fits}
+use Rattle.theory.proofs.Theorems.Closing.{closing_same, closing_once, sheet_fits}
 use Rattle.theory.specs.Theorems.Advance.{advances}
 
 -- every closing phase goes outward

@@ -10,8 +10,8 @@ use Rattle.model.specs.CutText.{latest_ring, printed_cut_sets}
 use Rattle.model.specs.ExposureText.{printed_exposures}
 use Rattle.model.specs.Laws.Reports.{stands_itself, stretches_read}
 use Rattle.theory.specs.Statements.EmptyFile.{SameFile, EmptyFile}
-use Rattle.theory.specs.Theorems.Outward.{example_runs}
-use Rattle.theory.specs.Theorems.Numbers.{other, more, or_never, reports_never}
+use Rattle.theory.proofs.Theorems.Outward.{example_runs}
+use Rattle.theory.proofs.Theorems.Numbers.{other, more, or_never, reports_never}
 
 -- "`3 0 0` is a whole file without reports."
 abbrev whole : List ℕ
