@@ -27,8 +27,8 @@ use Rattle.model.specs.Laws.Scans.{told_size}
 use Rattle.model.specs.Laws.Choosing.{Inside}
 use Rattle.theory.specs.Proofs.Choosing.{choices_inside}
 use Rattle.theory.proofs.Theorems.Closing.{closing_at, sheet_fits}
-use Rattle.demands.specs.Proofs.Operations.{opening_at}
-use Rattle.demands.specs.Theorems.Records.{inner_start_good, inner_step_good, inner_scan_good}
+use Rattle.demands.proofs.Proofs.Operations.{opening_at}
+use Rattle.demands.proofs.Theorems.Records.{inner_start_good, inner_step_good, inner_scan_good}
 use Rattle.buses.specs.Buses.{AllNamed, Named}
 use Rattle.lines.specs.SheetLine.{SheetBytes, sheet_line, sheet_is, sheet_line_lem}
 use Rattle.calls.specs.Lines.{Shown, Answered}

@@ -1,6 +1,3 @@
--- What the user demands of a controller, and that ours meets it.
+-- What the user demands of a controller. That ours meets it is in proofs/.
 pub mod Statements
 pub mod Controller
-pub mod Theorems
-pub mod Proofs
-pub mod Refuting

@@ -5,9 +5,9 @@ use Rattle.model.specs.declared.Word.TheVariants.{StuckOff}
 use Rattle.model.specs.declared.Report.{Report}
 use Rattle.model.specs.declared.Scan.{Scan}
 use Rattle.demands.specs.Statements.Demand3.{Call, step, scan, BookingCall, cancel, Calls, nothing, ◌then◌}
-use Rattle.demands.specs.Proofs.Answering.{full_room}
-use Rattle.demands.specs.Refuting.Claims.{Instance}
-use Rattle.demands.specs.Refuting.Facts.{report, generator1_off, breaker1_closed, breaker2_open}
+use Rattle.demands.proofs.Proofs.Answering.{full_room}
+use Rattle.demands.proofs.Refuting.Claims.{Instance}
+use Rattle.demands.proofs.Refuting.Facts.{report, generator1_off, breaker1_closed, breaker2_open}
 
 -- G2 stuck off
 abbrev pub generator2_off : Report

@@ -1,4 +1,3 @@
--- The wrong controllers, and what each fails.
+-- The wrong controllers. What each fails is in proofs/Refuted.
 pub mod Designs
 pub mod Controllers
-pub mod Refuted

@@ -1,3 +1,2 @@
--- The controllers that are wrong about bookings, and what each fails.
+-- The controllers that are wrong about bookings. What each fails is in proofs/Refuted.
 pub mod Controllers
-pub mod Refuted

@@ -108,9 +108,9 @@ use Rattle.demands.specs.Statements.Demand3.{
 use Rattle.demands.specs.Statements.Demand2.{earlier, Demand2}
 use Rattle.demands.specs.Statements.Locks.{NeverStarts}
 use Rattle.demands.specs.Controller.{controller}
-use Rattle.demands.specs.Proofs.Answering.{full_room, call_number}
-use Rattle.demands.specs.Refuting.Claims as claim
-use Rattle.demands.specs.Refuting.Claims.{
+use Rattle.demands.proofs.Proofs.Answering.{full_room, call_number}
+use Rattle.demands.proofs.Refuting.Claims as claim
+use Rattle.demands.proofs.Refuting.Claims.{
   Claim3,
   fails3,
   fails2,
@@ -168,8 +168,8 @@ use Rattle.demands.specs.Refuting.Claims.{
   at_last,
   at_either,
 }
-use Rattle.demands.specs.Refuting.Facts.{report, generator1_off, breaker1_closed, breaker2_open, breaker2_fit}
-use Rattle.demands.specs.Refuting.Runs.{run_ended, ordered, both_phases, world_after, after_call, run}
+use Rattle.demands.proofs.Refuting.Facts.{report, generator1_off, breaker1_closed, breaker2_open, breaker2_fit}
+use Rattle.demands.proofs.Refuting.Runs.{run_ended, ordered, both_phases, world_after, after_call, run}
 use Rattle.designs.specs.Designs.{
   parts_by,
   design_commands,
@@ -221,7 +221,8 @@ use Rattle.designs.specs.Instances.{
   halted,
   reversed,
 }
-use Rattle.designs.specs.Rows.{Row3, row, refuted3, Row2, row2, refuted2, none_of_3, none_of_2}
+use Rattle.designs.specs.Rows.{Row3, row, refuted3, Row2, row2, refuted2}
+use Rattle.designs.proofs.Rows.{none_of_3, none_of_2}
 use Rattle.wrong.specs.Designs.{
   chosen_by,
   trying,

@@ -95,13 +95,13 @@ use Rattle.demands.specs.Statements.Demand3.{
 use Rattle.demands.specs.Statements.Returns.{Returns, none_returns, returns, unlocks, Repeats, meanwhile, ByOperationAlone}
 use Rattle.demands.specs.Statements.Records.{Arrays}
 use Rattle.demands.specs.Controller.{controller}
-use Rattle.demands.specs.Proofs.Operations.{perform_health, any_order}
-use Rattle.demands.specs.Proofs.Steady.{both_done, sheet_is}
-use Rattle.demands.specs.Proofs.Answering.{full_room, CallFine, call_ready, ring_good, fine_served, call_served}
-use Rattle.demands.specs.Proofs.Standing.{same_phases}
-use Rattle.demands.specs.Theorems.Demand3.{words_last, not_closed}
-use Rattle.demands.specs.Theorems.Records.{health_is, served_step, plan_kept, good_steady, call_good}
-use Rattle.demands.specs.Theorems.Scans.{still}
+use Rattle.demands.proofs.Proofs.Operations.{perform_health, any_order}
+use Rattle.demands.proofs.Proofs.Steady.{both_done, sheet_is}
+use Rattle.demands.proofs.Proofs.Answering.{full_room, CallFine, call_ready, ring_good, fine_served, call_served}
+use Rattle.demands.proofs.Proofs.Standing.{same_phases}
+use Rattle.demands.proofs.Theorems.Demand3.{words_last, not_closed}
+use Rattle.demands.proofs.Theorems.Records.{health_is, served_step, plan_kept, good_steady, call_good}
+use Rattle.demands.proofs.Theorems.Scans.{still}
 
 -- ---- what stands when the orders have ended
 

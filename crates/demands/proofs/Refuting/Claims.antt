@@ -54,9 +54,9 @@ use Rattle.demands.specs.Statements.Demand3.{
   fed_by,
   fed_by_none,
 }
-use Rattle.demands.specs.Proofs.Answering.{call_number}
-use Rattle.demands.specs.Proofs.Booking.{booking_number}
-use Rattle.demands.specs.Refuting.Runs.{ordered, both_phases, run}
+use Rattle.demands.proofs.Proofs.Answering.{call_number}
+use Rattle.demands.proofs.Proofs.Booking.{booking_number}
+use Rattle.demands.proofs.Refuting.Runs.{ordered, both_phases, run}
 
 -- a start, the calls after it, and one call more, on which a claim is tested; or a booking or a cancellation more
 pub record Instance : Type 0 where

@@ -88,15 +88,15 @@ use Rattle.demands.specs.Statements.Demand3.{
   Demand3,
 }
 use Rattle.theory.proofs.Theorems.Closing.{closing_at}
-use Rattle.demands.specs.Proofs.Operations.{opening_at}
-use Rattle.demands.specs.Proofs.Standing.{same_phases}
-use Rattle.demands.specs.Proofs.Answering.{Judged, met, fine, judge_start, judge_call, CallFine}
-use Rattle.demands.specs.Proofs.Booking.{booking_number, judge_booking}
+use Rattle.demands.proofs.Proofs.Operations.{opening_at}
+use Rattle.demands.proofs.Proofs.Standing.{same_phases}
+use Rattle.demands.proofs.Proofs.Answering.{Judged, met, fine, judge_start, judge_call, CallFine}
+use Rattle.demands.proofs.Proofs.Booking.{booking_number, judge_booking}
 use Rattle.demands.specs.Statements.Demand2.{FirstPermitted, found, not_found, earlier, Needed, ToOpen, ToClose, Serves, Demand2}
-use Rattle.demands.specs.Theorems.Demand2.{earlier_chosen, needed_commanded}
-use Rattle.demands.specs.Refuting.Runs.{ordered, ordered_perm, cut_perm, both_phases, both_performed, run, run_ended, ended_begun}
-use Rattle.demands.specs.Refuting.Claims as claim
-use Rattle.demands.specs.Refuting.Claims.{
+use Rattle.demands.proofs.Theorems.Demand2.{earlier_chosen, needed_commanded}
+use Rattle.demands.proofs.Refuting.Runs.{ordered, ordered_perm, cut_perm, both_phases, both_performed, run, run_ended, ended_begun}
+use Rattle.demands.proofs.Refuting.Claims as claim
+use Rattle.demands.proofs.Refuting.Claims.{
   Instance,
   differ,
   is_dark,

@@ -110,10 +110,10 @@ use Rattle.demands.specs.Statements.Demand3.{
   phases_at,
   word_refusal,
 }
-use Rattle.demands.specs.Proofs.Answering.{full_room, call_number}
-use Rattle.demands.specs.Proofs.Booking.{booking_number}
-use Rattle.demands.specs.Refuting.Claims as claim
-use Rattle.demands.specs.Refuting.Claims.{
+use Rattle.demands.proofs.Proofs.Answering.{full_room, call_number}
+use Rattle.demands.proofs.Proofs.Booking.{booking_number}
+use Rattle.demands.proofs.Refuting.Claims as claim
+use Rattle.demands.proofs.Refuting.Claims.{
   fails3,
   digest,
   ring_sum,
@@ -145,8 +145,8 @@ use Rattle.demands.specs.Refuting.Claims.{
   at_either,
   at_booking,
 }
-use Rattle.demands.specs.Refuting.Facts.{generator1_off, breaker1_closed, breaker2_open}
-use Rattle.demands.specs.Refuting.Runs.{ordered, both_phases, world_after, after_call, after_booking, run}
+use Rattle.demands.proofs.Refuting.Facts.{generator1_off, breaker1_closed, breaker2_open}
+use Rattle.demands.proofs.Refuting.Runs.{ordered, both_phases, world_after, after_call, after_booking, run}
 use Rattle.designs.specs.Spoilt.{
   start_spoilt,
   step_spoilt,
@@ -172,7 +172,8 @@ use Rattle.designs.specs.Spoilt.{
   idle_ring,
 }
 use Rattle.designs.specs.Instances.{generator2_off, generator3_off, generator4_off, starting, calling, scan_of, two_faults, booking_after, ending}
-use Rattle.designs.specs.Rows.{Row3, row, refuted3, none_of_3}
+use Rattle.designs.specs.Rows.{Row3, row, refuted3}
+use Rattle.designs.proofs.Rows.{none_of_3}
 use Rattle.wrong_bookings.specs.Controllers.{
   book_spoilt,
   cancel_spoilt,

@@ -61,8 +61,8 @@ use Rattle.demands.specs.Statements.Locks.{
   Only,
   Apart,
 }
-use Rattle.demands.specs.Proofs.Standing.{same_phases}
-use Rattle.demands.specs.Theorems.Returns.{judged_after, ended_planned}
+use Rattle.demands.proofs.Proofs.Standing.{same_phases}
+use Rattle.demands.proofs.Theorems.Returns.{judged_after, ended_planned}
 
 -- ---- a locked generator
 

@@ -86,8 +86,8 @@ use Rattle.demands.specs.Statements.Demand3.{
   Holds,
   Demand3,
 }
-use Rattle.demands.specs.Proofs.Operations.{perform_health, any_order, sheet_order}
-use Rattle.demands.specs.Proofs.Steady.{
+use Rattle.demands.proofs.Proofs.Operations.{perform_health, any_order, sheet_order}
+use Rattle.demands.proofs.Proofs.Steady.{
   phases_of,
   Replied,
   Steady,
@@ -98,10 +98,10 @@ use Rattle.demands.specs.Proofs.Steady.{
   second_fewer,
 }
 use Rattle.demands.specs.Controller.{controller}
-use Rattle.demands.specs.Proofs.Answering as answering
-use Rattle.demands.specs.Proofs.Answering.{start_served, start_fine, start_answered, start_ready, call_ready, call_served}
-use Rattle.demands.specs.Proofs.Loads.{live_count, figures_sum}
-use Rattle.demands.specs.Proofs.Standing.{same_phases, Stands, stands_good, booking_answered, ended_stands}
+use Rattle.demands.proofs.Proofs.Answering as answering
+use Rattle.demands.proofs.Proofs.Answering.{start_served, start_fine, start_answered, start_ready, call_ready, call_served}
+use Rattle.demands.proofs.Proofs.Loads.{live_count, figures_sum}
+use Rattle.demands.proofs.Proofs.Standing.{same_phases, Stands, stands_good, booking_answered, ended_stands}
 
 -- ---- what is shown
 

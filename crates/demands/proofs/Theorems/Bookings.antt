@@ -48,9 +48,9 @@ use Rattle.demands.specs.Statements.Demand3.{
 use Rattle.demands.specs.Statements.Records.{Arrays}
 use Rattle.demands.specs.Statements.Bookings.{SwitchAlike, unbooked, SeenAlike}
 use Rattle.demands.specs.Controller.{controller}
-use Rattle.demands.specs.Proofs.Answering.{ring_good, call_refusal, call_reply_lem}
-use Rattle.demands.specs.Proofs.Standing.{same_phases, stands_good, booked_is, unbooked_is, booking_stands}
-use Rattle.demands.specs.Theorems.Records.{good_stands}
+use Rattle.demands.proofs.Proofs.Answering.{ring_good, call_refusal, call_reply_lem}
+use Rattle.demands.proofs.Proofs.Standing.{same_phases, stands_good, booked_is, unbooked_is, booking_stands}
+use Rattle.demands.proofs.Theorems.Records.{good_stands}
 
 -- ---- two records with one ring
 

@@ -23,7 +23,7 @@ use Rattle.demands.specs.Statements.Demand3.{
   no_place,
   not_live,
 }
-use Rattle.demands.specs.Proofs.Answering.{Judged, met, fine}
+use Rattle.demands.proofs.Proofs.Answering.{Judged, met, fine}
 
 -- the refusals of a booking or a cancellation in their order but for 9, by what history knows
 unfoldable pub booking_number : ℕ → History → BookingCall → ℕ

@@ -130,9 +130,9 @@ use Rattle.demands.specs.Statements.Demand3.{
 }
 use Rattle.demands.specs.Controller.{controller}
 use Rattle.demands.specs.Statements.Records.{Made, started, stepped, booked, cancelled, Arrays, BlankBehind}
-use Rattle.demands.specs.Proofs.Operations.{sheet_order}
-use Rattle.demands.specs.Proofs.Steady.{Ready, phases_of, not_commanded, Steady, steady_ring, served_decodes, transition_steady}
-use Rattle.demands.specs.Proofs.Answering.{
+use Rattle.demands.proofs.Proofs.Operations.{sheet_order}
+use Rattle.demands.proofs.Proofs.Steady.{Ready, phases_of, not_commanded, Steady, steady_ring, served_decodes, transition_steady}
+use Rattle.demands.proofs.Proofs.Answering.{
   full_room,
   full_length,
   start_ready,
@@ -146,9 +146,9 @@ use Rattle.demands.specs.Proofs.Answering.{
   fine_served,
   served_fine,
 }
-use Rattle.demands.specs.Proofs.Loads.{Loaded, booked_only, live_count, one_fewer, loaded_good, anew_good}
-use Rattle.demands.specs.Proofs.Booking.{BookingFine, fine_book, fine_cancel}
-use Rattle.demands.specs.Proofs.Standing.{
+use Rattle.demands.proofs.Proofs.Loads.{Loaded, booked_only, live_count, one_fewer, loaded_good, anew_good}
+use Rattle.demands.proofs.Proofs.Booking.{BookingFine, fine_book, fine_cancel}
+use Rattle.demands.proofs.Proofs.Standing.{
   steady_kinds,
   all_kinds,
   told_kinds_state,

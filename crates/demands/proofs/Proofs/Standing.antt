@@ -82,8 +82,8 @@ use Rattle.demands.specs.Statements.Demand3.{
   BookingAnswered,
 }
 use Rattle.demands.specs.Controller.{controller}
-use Rattle.demands.specs.Proofs.Steady.{Ready, Steady, fit_of_kind, steady_ring, served_choices, served_decodes, transition_steady}
-use Rattle.demands.specs.Proofs.Answering.{
+use Rattle.demands.proofs.Proofs.Steady.{Ready, Steady, fit_of_kind, steady_ring, served_choices, served_decodes, transition_steady}
+use Rattle.demands.proofs.Proofs.Answering.{
   Judged,
   judged_fine,
   judged_zero,
@@ -98,8 +98,8 @@ use Rattle.demands.specs.Proofs.Answering.{
   call_served,
   call_refused,
 }
-use Rattle.demands.specs.Proofs.Loads.{Loaded, loaded_none, loaded_anew, live_count, loaded_book, loaded_cancel, load_good}
-use Rattle.demands.specs.Proofs.Booking.{booking_number, BookingFine, fine_book, fine_cancel, none_booking, judge_booking}
+use Rattle.demands.proofs.Proofs.Loads.{Loaded, loaded_none, loaded_anew, live_count, loaded_book, loaded_cancel, load_good}
+use Rattle.demands.proofs.Proofs.Booking.{booking_number, BookingFine, fine_book, fine_cancel, none_booking, judge_booking}
 
 -- ---- words
 

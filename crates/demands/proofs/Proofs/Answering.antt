@@ -94,7 +94,7 @@ use Rattle.demands.specs.Statements.Demand3.{
   Answered,
 }
 use Rattle.demands.specs.Controller.{controller}
-use Rattle.demands.specs.Proofs.Steady.{Ready, Steady, sheet_is}
+use Rattle.demands.proofs.Proofs.Steady.{Ready, Steady, sheet_is}
 
 -- ---- the reply that has a number
 

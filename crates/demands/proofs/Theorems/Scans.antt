@@ -42,8 +42,8 @@ use Rattle.theory.proofs.Theorems.Closing.{sequence_exactly}
 use Rattle.demands.specs.Statements.Demand3.{step, scan, is_served, AllGood, no_reports, good_and}
 use Rattle.demands.specs.Statements.Records.{Made, stepped, Arrays}
 use Rattle.demands.specs.Statements.Scans.{Singly, no_step, first_step}
-use Rattle.demands.specs.Proofs.Answering.{full_room, served_fine, ring_good, call_served, call_refused}
-use Rattle.demands.specs.Theorems.Records.{as_planned, plan_kept, good_steady, served_step, call_good}
+use Rattle.demands.proofs.Proofs.Answering.{full_room, served_fine, ring_good, call_served, call_refused}
+use Rattle.demands.proofs.Theorems.Records.{as_planned, plan_kept, good_steady, served_step, call_good}
 
 -- ---- a served scan
 

@@ -21,11 +21,11 @@ use Rattle.theory.specs.Proofs.Choosing.{on_in}
 use Rattle.theory.specs.Theorems.Feeds.{commanded_at}
 use Rattle.theory.proofs.Theorems.Closing.{closing_at, closing_in}
 use Rattle.demands.specs.Statements.Demand3.{PlantState, Operation, operation, is_served, Performed, performed}
-use Rattle.demands.specs.Proofs.Operations.{any_order, operation_at, opening_at, opening_in}
-use Rattle.demands.specs.Proofs.Steady.{phases_of, Replied, both_done}
-use Rattle.demands.specs.Proofs.Answering.{start_answered, start_fine}
+use Rattle.demands.proofs.Proofs.Operations.{any_order, operation_at, opening_at, opening_in}
+use Rattle.demands.proofs.Proofs.Steady.{phases_of, Replied, both_done}
+use Rattle.demands.proofs.Proofs.Answering.{start_answered, start_fine}
 use Rattle.demands.specs.Controller.{controller}
-use Rattle.demands.specs.Theorems.Demand3.{start_replied, call_replied, call_answered}
+use Rattle.demands.proofs.Theorems.Demand3.{start_replied, call_replied, call_answered}
 use Rattle.demands.specs.Statements.Demand2.{FirstPermitted, found, not_found, earlier, Needed, ToOpen, ToClose, Serves, Demand2}
 
 -- ---- the first permitted path

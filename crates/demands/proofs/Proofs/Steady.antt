@@ -42,7 +42,7 @@ use Rattle.demands.specs.Statements.Demand3.{
   World,
   switched,
 }
-use Rattle.demands.specs.Proofs.Operations.{
+use Rattle.demands.proofs.Proofs.Operations.{
   perform_health,
   Struck,
   hit,

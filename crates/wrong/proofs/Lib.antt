@@ -1,0 +1,2 @@
+-- What each of the wrong controllers fails.
+pub mod Refuted

@@ -1,0 +1,2 @@
+-- What each of the controllers that are wrong about bookings fails.
+pub mod Refuted
