@@ -80,7 +80,10 @@ module _ (n : ℕ) (h : n ≤ largest) where
         → zip_with operation_text (map part_code ps) (map (λ p. v) ps) ≡ map (λ p. part_name p ++ ascii s) ps
     unfolding zip_with
     operations [] r = refl
-    operations (p ∷ ps) r = rw (operations ps (λ q k. r q (Memᴰ.tail k)), part_name_lem p (r p (Memᴰ.head refl)), e)
+    operations (p ∷ ps) r =
+        rw (part_name_lem p (r p (Memᴰ.head refl)))
+        (ap (λ l. (part_name p ++ (sign v ∷ [])) ∷ l) (operations ps (λ q k. r q (Memᴰ.tail k))) ∙
+        ap (λ t. (part_name p ++ t) ∷ map (λ q. part_name q ++ ascii s) ps) (sym e))
 
     phase : (ps : List Part) → ((p : Part) → p ∈ ps → InRing n p) → phase_of (map part_code ps) (map (λ p. v) ps) ≡ phase_text s ps
     unfolding phase_of phase_text operations_text
