@@ -2,9 +2,8 @@
 use mathlib.Core.Path.{refl}
 use Rattle.model.specs.Lists.{below}
 use Rattle.model.specs.Reports.{places}
-use Rattle.plant.proofs.dark_buses.Statement.{statement}
-use Rattle.plant.proofs.dark_buses.Tie as tie
+use Rattle.plant.proofs.dark_buses.Goals as goal
 
-pub dark-buses-spec : {M : Type 1} → statement M
+pub returns : goal.returns
 unfolding places below
-dark-buses-spec = tie.close (tie.spec (λ c. refl))
+returns c = refl
