@@ -1,0 +1,6 @@
+-- `loads::booking_at` meets its contract.
+use borrow.Author.Rules.{rules}
+use Rattle.loads.proofs.booking_at.Goals as goal
+
+pub returns : goal.returns
+returns c = cc
