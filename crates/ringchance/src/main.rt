@@ -2,37 +2,32 @@
 // every bus after its last report. What it prints is proved in `datasheets` and `chances`: here are two reads and a write.
 #![tactic(auto)]
 
-use libc::{STDERR_FILENO, STDIN_FILENO, STDOUT_FILENO};
 use model::Rates;
+use std::io::Read;
 
 // Reads a file and prints its text. It answers false where the text could not be written.
-fn print_text(rates: Rates) -> bool {
+fn print_text<R: Read>(rt: &(impl Print + Eprint), source: &mut R, rates: Rates) -> bool {
     let mut file = [0u8; 8196];
-    let input = reading::read_file(&mut file);
+    let input = reading::read_file(source, &mut file);
     if input.failed {
-        io::write_all(
-            STDERR_FILENO,
-            b"ringchance: standard input cannot be read\n",
-        );
+        let _ = rt.eprintln("ringchance: standard input cannot be read");
         return true;
     }
     let size = input.size;
     let mut out = [0u8; 880];
     let length = chances::text(rates, &file[..size], &mut out);
-    io::write_all(STDOUT_FILENO, &out[..length])
+    rt.write_all(&out[..length]).is_ok()
 }
 
-fn main() {
+fn main(rt: HostRuntime) {
     let mut sheets = [0u8; 540];
-    if io::read_full(STDIN_FILENO, &mut sheets) < 540 {
-        io::write_all(STDERR_FILENO, b"ringchance: the rates are broken off\n");
+    let mut stdin = rt.stdin();
+    if reading::read_full(&mut stdin, &mut sheets).size < 540 {
+        let _ = rt.eprintln("ringchance: the rates are broken off");
         return;
     }
     let rates = datasheets::rates_at(&sheets, 0);
-    if !print_text(rates) {
-        io::write_all(
-            STDERR_FILENO,
-            b"ringchance: standard output cannot be written\n",
-        );
+    if !print_text(&rt, &mut stdin, rates) {
+        let _ = rt.eprintln("ringchance: standard output cannot be written");
     }
 }

@@ -6,8 +6,8 @@
 ghost use Rattle.std.specs.Prelude.{◌≤◌, length};
 ghost use Rattle.model.specs.Text.{line_room};
 
-use libc::{STDERR_FILENO, STDIN_FILENO, STDOUT_FILENO};
 use model::{BookingAnswer, Outcome, RingState, StateAnswer};
+use std::io::Read;
 
 // What a call gives but for the choices: its outcome and the ring state.
 fn without_choices(answer: StateAnswer) -> BookingAnswer {
@@ -28,7 +28,7 @@ fn answer_of(state: RingState, case: &[u8; 194]) -> BookingAnswer {
 }
 
 // Prints the figures of a ring of n, or the refusal; false where they could not be written, as everywhere here.
-fn print_answer(n: u8, answer: BookingAnswer, out: &mut [u8]) -> bool
+fn print_answer(rt: &impl Print, n: u8, answer: BookingAnswer, out: &mut [u8]) -> bool
     requires { (n ≤ 20) × (line_room ≤ length out.old) }
 {
     let outcome = answer.outcome;
@@ -36,31 +36,37 @@ fn print_answer(n: u8, answer: BookingAnswer, out: &mut [u8]) -> bool
     match outcome {
         Outcome::Served => {
             let length = loadlines::figures_line(n, load, out);
-            io::write_all(STDOUT_FILENO, &out[..length])
+            rt.write_all(&out[..length]).is_ok()
         }
         Outcome::Refused(number) => {
             let length = heads::refused_text(number, out);
-            io::write_all(STDOUT_FILENO, &out[..length])
+            rt.write_all(&out[..length]).is_ok()
         }
     }
 }
 
 // The calls, each of which gets the ring state that the one before it gave; at most 9999, as `ringscan` takes.
-fn print_calls(n: u8, started: RingState, out: &mut [u8]) -> bool
+fn print_calls<R: Read>(
+    rt: &(impl Print + Eprint),
+    source: &mut R,
+    n: u8,
+    started: RingState,
+    out: &mut [u8],
+) -> bool
     requires { (n ≤ 20) × (line_room ≤ length out.old) }
 {
     let mut state = started;
     for _ in 1..10000usize {
         let mut case = [0u8; 194];
-        let got = io::read_full(STDIN_FILENO, &mut case);
+        let got = reading::read_full(source, &mut case).size;
         if got < 194 {
             if 0 < got {
-                io::write_all(STDERR_FILENO, b"ringload: the last call is broken off\n");
+                let _ = rt.eprintln("ringload: the last call is broken off");
             }
             break;
         }
         let answer = answer_of(state, &case);
-        if !print_answer(n, answer, out) {
+        if !print_answer(rt, n, answer, out) {
             return false;
         }
         state = answer.state;
@@ -69,30 +75,28 @@ fn print_calls(n: u8, started: RingState, out: &mut [u8]) -> bool
 }
 
 // The start and the calls, or the refusal of n.
-fn print_ring(n: u8, out: &mut [u8]) -> bool
+fn print_ring<R: Read>(rt: &(impl Print + Eprint), source: &mut R, n: u8, out: &mut [u8]) -> bool
     requires { line_room ≤ length out.old }
 {
     if components::size_outside(n) {
         let length = heads::refused_text(2, out);
-        return io::write_all(STDOUT_FILENO, &out[..length]);
+        return rt.write_all(&out[..length]).is_ok();
     }
     let mut sheet = [0u8; 122];
     let answer = without_choices(control::start(n, &mut sheet));
     let state = answer.state;
-    print_answer(n, answer, out) && print_calls(n, state, out)
+    print_answer(rt, n, answer, out) && print_calls(rt, source, n, state, out)
 }
 
-fn main() {
+fn main(rt: HostRuntime) {
     let mut first = [0u8; 1];
-    if io::read_full(STDIN_FILENO, &mut first) < 1 {
-        io::write_all(STDERR_FILENO, b"ringload: standard input is empty\n");
+    let mut stdin = rt.stdin();
+    if reading::read_full(&mut stdin, &mut first).size < 1 {
+        let _ = rt.eprintln("ringload: standard input is empty");
         return;
     }
     let mut out = [0u8; 553];
-    if !print_ring(first[0], &mut out) {
-        io::write_all(
-            STDERR_FILENO,
-            b"ringload: standard output cannot be written\n",
-        );
+    if !print_ring(&rt, &mut stdin, first[0], &mut out) {
+        let _ = rt.eprintln("ringload: standard output cannot be written");
     }
 }

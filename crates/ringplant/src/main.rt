@@ -4,33 +4,32 @@
 
 ghost use Rattle.std.specs.Prelude.{◌≤◌};
 
-use libc::{STDERR_FILENO, STDIN_FILENO, STDOUT_FILENO};
 use model::{BusFeed, Feed, FeedsAnswer, Outcome};
 
 // Prints some words and a number behind them; false where they could not be written, as everywhere here.
-fn print_numbered(words: &[u8], number: u8) -> bool {
-    io::write_all(STDOUT_FILENO, words) && io::print_decimal(STDOUT_FILENO, number as u64)
+fn print_numbered(rt: &impl Print, words: &[u8], number: u8) -> bool {
+    rt.write_all(words).is_ok() && rt.print(number as u64).is_ok()
 }
 
 // "For each bus its answer is one of three: dark, fed by one generator, or a clash that names the two lowest generators
 // feeding it."
-fn print_feed(bus: BusFeed) -> bool {
+fn print_feed(rt: &impl Print, bus: BusFeed) -> bool {
     let feed = bus.feed;
     match feed {
-        Feed::Dark => io::write_all(STDOUT_FILENO, b" dark"),
-        Feed::Fed(g) => print_numbered(b" G", g),
-        Feed::Clash(g, h) => print_numbered(b" clash G", g) && print_numbered(b" G", h),
+        Feed::Dark => rt.write_all(b" dark").is_ok(),
+        Feed::Fed(g) => print_numbered(rt, b" G", g),
+        Feed::Clash(g, h) => print_numbered(rt, b" clash G", g) && print_numbered(rt, b" G", h),
     }
 }
 
 // A line for each bus of the ring.
-fn print_buses(n: u8, buses: [BusFeed; 20]) -> bool
+fn print_buses(rt: &impl Print, n: u8, buses: [BusFeed; 20]) -> bool
     requires { n ≤ 20 }
 {
     for b in 0..n {
-        if !(print_numbered(b"B", b + 1)
-            && print_feed(buses[b as usize])
-            && io::write_all(STDOUT_FILENO, b"\n"))
+        if !(print_numbered(rt, b"B", b + 1)
+            && print_feed(rt, buses[b as usize])
+            && rt.write_all(b"\n").is_ok())
         {
             return false;
         }
@@ -39,14 +38,13 @@ fn print_buses(n: u8, buses: [BusFeed; 20]) -> bool
 }
 
 // The answer, or the number of its refusal.
-fn print_answer(n: u8, answer: FeedsAnswer) -> bool {
+fn print_answer(rt: &impl Print, n: u8, answer: FeedsAnswer) -> bool {
     let outcome = answer.outcome;
     match outcome {
-        Outcome::Refused(k) => print_numbered(b"refused ", k)
-            && io::write_all(STDOUT_FILENO, b"\n"),
+        Outcome::Refused(k) => print_numbered(rt, b"refused ", k) && rt.write_all(b"\n").is_ok(),
         Outcome::Served => {
             let buses = answer.buses;
-            20 < n || print_buses(n, buses)
+            20 < n || print_buses(rt, n, buses)
         }
     }
 }
@@ -58,19 +56,13 @@ fn reckoned(case: &[u8; 141]) -> FeedsAnswer {
     plant::feeds(case[0], health, commands)
 }
 
-fn main() {
+fn main(rt: HostRuntime) {
     let mut case = [0u8; 141];
-    if io::read_full(STDIN_FILENO, &mut case) < 141 {
-        io::write_all(
-            STDERR_FILENO,
-            b"ringplant: standard input has fewer than 141 bytes\n",
-        );
+    if reading::read_full(&mut rt.stdin(), &mut case).size < 141 {
+        let _ = rt.eprintln("ringplant: standard input has fewer than 141 bytes");
         return;
     }
-    if !print_answer(case[0], reckoned(&case)) {
-        io::write_all(
-            STDERR_FILENO,
-            b"ringplant: standard output cannot be written\n",
-        );
+    if !print_answer(&rt, case[0], reckoned(&case)) {
+        let _ = rt.eprintln("ringplant: standard output cannot be written");
     }
 }

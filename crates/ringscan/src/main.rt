@@ -6,27 +6,32 @@ ghost use Rattle.std.specs.Prelude.{◌≡◌, false, ◌≤◌, length};
 ghost use Rattle.model.specs.Refusals.{bad_ring};
 ghost use Rattle.model.specs.Text.{line_room};
 
-use libc::{STDERR_FILENO, STDIN_FILENO, STDOUT_FILENO};
 use model::Ring;
+use std::io::Read;
 
 // Prints the text of each scan, which gets the ring that the call before it gave; false where one could not be written. A line's
 // number has at most four digits, so that a ring is handed at most 9999 scans.
-fn print_scans(started: Ring, out: &mut [u8]) -> bool
+fn print_scans<R: Read>(
+    rt: &(impl Print + Eprint),
+    source: &mut R,
+    started: Ring,
+    out: &mut [u8],
+) -> bool
     requires { (bad_ring started ≡ false) × (line_room ≤ length out.old) }
 {
     let mut ring = started;
     for i in 1..10000usize {
         let mut case = [0u8; 193];
-        let got = io::read_full(STDIN_FILENO, &mut case);
+        let got = reading::read_full(source, &mut case).size;
         if got < 193 {
             if 0 < got {
-                io::write_all(STDERR_FILENO, b"ringscan: the last scan is broken off\n");
+                let _ = rt.eprintln("ringscan: the last scan is broken off");
             }
             break;
         }
         let line = calls::scan_text(ring, answers::scan_at(&case, 0), i, out);
         let length = line.length;
-        if !io::write_all(STDOUT_FILENO, &out[..length]) {
+        if rt.write_all(&out[..length]).is_err() {
             return false;
         }
         ring = line.ring;
@@ -35,30 +40,28 @@ fn print_scans(started: Ring, out: &mut [u8]) -> bool
 }
 
 // Prints the start's line and the scans', or the refusal of n.
-fn print_ring(n: u8, out: &mut [u8]) -> bool
+fn print_ring<R: Read>(rt: &(impl Print + Eprint), source: &mut R, n: u8, out: &mut [u8]) -> bool
     requires { line_room ≤ length out.old }
 {
     if components::size_outside(n) {
         let length = heads::refused_text(2, out);
-        return io::write_all(STDOUT_FILENO, &out[..length]);
+        return rt.write_all(&out[..length]).is_ok();
     }
     let line = calls::start_line(n, out);
     let length = line.length;
     let ring = line.ring;
-    io::write_all(STDOUT_FILENO, &out[..length]) && print_scans(ring, out)
+    rt.write_all(&out[..length]).is_ok() && print_scans(rt, source, ring, out)
 }
 
-fn main() {
+fn main(rt: HostRuntime) {
     let mut first = [0u8; 1];
-    if io::read_full(STDIN_FILENO, &mut first) < 1 {
-        io::write_all(STDERR_FILENO, b"ringscan: standard input is empty\n");
+    let mut stdin = rt.stdin();
+    if reading::read_full(&mut stdin, &mut first).size < 1 {
+        let _ = rt.eprintln("ringscan: standard input is empty");
         return;
     }
     let mut out = [0u8; 553];
-    if !print_ring(first[0], &mut out) {
-        io::write_all(
-            STDERR_FILENO,
-            b"ringscan: standard output cannot be written\n",
-        );
+    if !print_ring(&rt, &mut stdin, first[0], &mut out) {
+        let _ = rt.eprintln("ringscan: standard output cannot be written");
     }
 }

@@ -4,7 +4,6 @@
 
 ghost use Rattle.std.specs.Prelude.{◌≤◌};
 
-use libc::{STDERR_FILENO, STDOUT_FILENO};
 use model::{BusFeed, Commands, Feed, FileAnswer, Health, ReportAnswer, Ring, RingState};
 
 // A byte behind a text of this length; what has no room is left out. The lines here have room: none is longer than 260.
@@ -112,16 +111,17 @@ fn performed(commands: Commands, code: u8, on: bool) -> Commands {
 }
 
 // Prints the text at the front of a buffer.
-fn print(out: &[u8], length: usize) -> bool {
+fn print(rt: &impl Print, out: &[u8], length: usize) -> bool {
     if out.len() < length {
         return false;
     }
-    io::write_all(STDOUT_FILENO, &out[..length])
+    rt.write_all(&out[..length]).is_ok()
 }
 
 // Prints a line that begins with the text of this length: what feeds each bus by the plant reckoning. False where it could not
 // be written, as everywhere here.
 fn print_feeds(
+    rt: &impl Print,
     out: &mut [u8; 320],
     length: usize,
     n: u8,
@@ -132,7 +132,7 @@ fn print_feeds(
     let buses = answer.buses;
     let line = append_buses(out, length, n, buses);
     let end = append(out, line, b'\n');
-    print(out, end)
+    print(rt, out, end)
 }
 
 // The operations of both phases together.
@@ -143,7 +143,13 @@ fn operation_count(first: u8, second: u8) -> usize
 }
 
 // A line after each operation of a command sheet: its sizes, the codes of both phases, then the commands.
-fn print_operations(n: u8, health: Health, before: Commands, sheet: &[u8; 122]) -> bool {
+fn print_operations(
+    rt: &impl Print,
+    n: u8,
+    health: Health,
+    before: Commands,
+    sheet: &[u8; 122],
+) -> bool {
     let size = operation_count(sheet[0], sheet[1]);
     let mut commands = before;
     for i in 0..60 {
@@ -152,7 +158,7 @@ fn print_operations(n: u8, health: Health, before: Commands, sheet: &[u8; 122]) 
             let mut out = [0u8; 320];
             let length = append_operation(&mut out, sheet[2 + i], on);
             commands = performed(commands, sheet[2 + i], on);
-            if !print_feeds(&mut out, length, n, health, commands) {
+            if !print_feeds(rt, &mut out, length, n, health, commands) {
                 return false;
             }
         }
@@ -161,16 +167,22 @@ fn print_operations(n: u8, health: Health, before: Commands, sheet: &[u8; 122]) 
 }
 
 // A call: its number and the ring after its word, then its operations.
-fn print_call(number: usize, before: Commands, after: Ring, sheet: &[u8; 122]) -> bool {
+fn print_call(
+    rt: &impl Print,
+    number: usize,
+    before: Commands,
+    after: Ring,
+    sheet: &[u8; 122],
+) -> bool {
     let mut out = [0u8; 320];
     let health = after.health;
-    io::print_decimal(STDOUT_FILENO, number as u64)
-        && print_feeds(&mut out, 0, after.n, health, before)
-        && print_operations(after.n, health, before, sheet)
+    rt.print(number as u64).is_ok()
+        && print_feeds(rt, &mut out, 0, after.n, health, before)
+        && print_operations(rt, after.n, health, before, sheet)
 }
 
 // The calls of the reports.
-fn print_reports(first: RingState, codes: &[u8], words: &[u8]) -> bool {
+fn print_reports(rt: &impl Print, first: RingState, codes: &[u8], words: &[u8]) -> bool {
     let mut state = first;
     let mut i = 0;
     while i < codes.len() {
@@ -182,7 +194,7 @@ fn print_reports(first: RingState, codes: &[u8], words: &[u8]) -> bool {
                 let answer = control::step(state, report, &mut sheet);
                 state = answer.state;
                 let after = state.ring;
-                if !print_call(number, ring.commands, after, &sheet) {
+                if !print_call(rt, number, ring.commands, after, &sheet) {
                     return false;
                 }
                 i = number;
@@ -199,7 +211,7 @@ fn print_reports(first: RingState, codes: &[u8], words: &[u8]) -> bool {
 }
 
 // The header, the start, and the calls of the reports.
-fn print_served(n: u8, codes: &[u8], words: &[u8]) -> bool {
+fn print_served(rt: &impl Print, n: u8, codes: &[u8], words: &[u8]) -> bool {
     let mut sheet = [0u8; 122];
     let answer = control::start(n, &mut sheet);
     let state = answer.state;
@@ -209,26 +221,24 @@ fn print_served(n: u8, codes: &[u8], words: &[u8]) -> bool {
         generator_breakers: [false; 20],
         bus_breakers: [false; 20],
     };
-    io::write_all(STDOUT_FILENO, b"ring ")
-        && io::print_decimal(STDOUT_FILENO, n as u64)
-        && io::write_all(STDOUT_FILENO, b" reports ")
-        && io::print_decimal(STDOUT_FILENO, codes.len() as u64)
-        && io::write_all(STDOUT_FILENO, b"\n")
-        && print_call(0, off, ring, &sheet)
-        && print_reports(state, codes, words)
+    rt.write_all(b"ring ").is_ok()
+        && rt.print(n as u64).is_ok()
+        && rt.write_all(b" reports ").is_ok()
+        && rt.print(codes.len() as u64).is_ok()
+        && rt.write_all(b"\n").is_ok()
+        && print_call(rt, 0, off, ring, &sheet)
+        && print_reports(rt, state, codes, words)
 }
 
 // The number of a refused file.
-fn print_refused(k: u8) -> bool {
-    io::write_all(STDOUT_FILENO, b"refused ")
-        && io::print_decimal(STDOUT_FILENO, k as u64)
-        && io::write_all(STDOUT_FILENO, b"\n")
+fn print_refused(rt: &impl Print, k: u8) -> bool {
+    rt.write_all(b"refused ").is_ok() && rt.print(k as u64).is_ok() && rt.write_all(b"\n").is_ok()
 }
 
 // A file with m reports: the part codes from byte 3, then the words. One of no bytes (document 02, Note 9) is both of its stretches.
-fn print_file(n: u8, m: usize, file: &[u8]) -> bool {
+fn print_file(rt: &impl Print, n: u8, m: usize, file: &[u8]) -> bool {
     if file.len() == 0 {
-        return print_served(n, file, file);
+        return print_served(rt, n, file, file);
     }
     if file.len() < 3 {
         return false;
@@ -236,30 +246,27 @@ fn print_file(n: u8, m: usize, file: &[u8]) -> bool {
     if file.len() - 3 < m {
         return false;
     }
-    print_served(n, &file[3..3 + m], &file[3 + m..])
+    print_served(rt, n, &file[3..3 + m], &file[3 + m..])
 }
 
 // The trace of a file.
-fn print_trace(file: &[u8]) -> bool {
+fn print_trace(rt: &impl Print, file: &[u8]) -> bool {
     match files::check_file(file) {
-        FileAnswer::Refused(k) => print_refused(k),
-        FileAnswer::Served(n, m) => print_file(n, m, file),
+        FileAnswer::Refused(k) => print_refused(rt, k),
+        FileAnswer::Served(n, m) => print_file(rt, n, m, file),
     }
 }
 
-fn main() {
+fn main(rt: HostRuntime) {
     // The longest file has 8,195 bytes: one byte more tells that a file is too long.
     let mut file = [0u8; 8196];
-    let input = reading::read_file(&mut file);
+    let input = reading::read_file(&mut rt.stdin(), &mut file);
     if input.failed {
-        io::write_all(STDERR_FILENO, b"ringtrace: standard input cannot be read\n");
+        let _ = rt.eprintln("ringtrace: standard input cannot be read");
         return;
     }
     let size = input.size;
-    if !print_trace(&file[..size]) {
-        io::write_all(
-            STDERR_FILENO,
-            b"ringtrace: standard output cannot be written\n",
-        );
+    if !print_trace(&rt, &file[..size]) {
+        let _ = rt.eprintln("ringtrace: standard output cannot be written");
     }
 }
