@@ -4,19 +4,21 @@
 ghost use Rattle.std.specs.Prelude.{◌≡◌, ◌≤◌, ◌<◌, length};
 ghost use Rattle.model.specs.Text.{line_room};
 
+use std::io;
+use std::io::Read;
 use tally::Tally;
 
 // Whether the next stored bytes are ours.
-fn next_is(stored: i32, ours: &[u8], expected: &mut [u8]) -> bool
+fn next_is<R: Read>(stored: &mut R, ours: &[u8], expected: &mut [u8]) -> bool
     requires { length ours.now ≤ length expected.old }
 {
     let size = ours.len();
-    let got = io::read_full(stored, &mut expected[..size]);
+    let got = reading::read_full(stored, &mut expected[..size]).size;
     got == size && check::same(ours, &expected[..size])
 }
 
 // Whether the run of a file is the stored one.
-fn run_agrees(stored: i32, file: &[u8], out: &mut [u8], expected: &mut [u8]) -> bool
+fn run_agrees<R: Read>(stored: &mut R, file: &[u8], out: &mut [u8], expected: &mut [u8]) -> bool
     requires { (line_room ≤ length out.old) × (length out.old ≡ length expected.old) }
 {
     let mut cursor = run::begin();
@@ -40,31 +42,31 @@ fn size_of(low: u8, high: u8) -> usize
 }
 
 // A case: the file, and behind it the text. A text that is longer or shorter than ours is found by the mark behind it.
-fn agrees(stored: i32, size: usize) -> bool
+fn agrees<R: Read>(stored: &mut R, size: usize) -> bool
     requires { size < 65536 }
 {
-    let mut file = io::large_buffer();
-    let mut out = io::large_buffer();
-    let mut expected = io::large_buffer();
+    let mut file = [0u8; 65536];
+    let mut out = [0u8; 65536];
+    let mut expected = [0u8; 65536];
     let mut mark = [1u8; 1];
-    let got = io::read_full(stored, &mut file[..size]);
+    let got = reading::read_full(stored, &mut file[..size]).size;
     let same = run_agrees(stored, &file[..size], &mut out, &mut expected);
-    io::read_full(stored, &mut mark);
+    reading::read_full(stored, &mut mark);
     got == size && same && mark[0] == 0
 }
 
-fn main() {
-    let stored = tally::stored();
+fn main(rt: HostRuntime) -> io::Result<()> {
+    let mut stored = tally::stored(&rt)?;
     let mut tally = Tally {
         cases: 0,
         differ: 0,
     };
     for _ in 0..100000usize {
         let mut size = [0u8; 2];
-        if io::read_full(stored, &mut size) < 2 {
+        if reading::read_full(&mut stored, &mut size).size < 2 {
             break;
         }
-        tally = tally::counted(tally, agrees(stored, size_of(size[0], size[1])));
+        tally = tally::counted(tally, agrees(&mut stored, size_of(size[0], size[1])));
     }
-    tally::print(tally);
+    tally::print(&rt, tally)
 }

@@ -3,6 +3,7 @@
 #![tactic(auto)]
 
 use model::BookingAnswer;
+use std::io;
 use tally::Tally;
 
 // The case's call.
@@ -19,18 +20,18 @@ fn agrees(case: &[u8; 1357]) -> bool {
     answers::same_booking(answer_of(case), case, 682)
 }
 
-fn main() {
-    let stored = tally::stored();
+fn main(rt: HostRuntime) -> io::Result<()> {
+    let mut stored = tally::stored(&rt)?;
     let mut tally = Tally {
         cases: 0,
         differ: 0,
     };
     for _ in 0..100000usize {
         let mut case = [0u8; 1357];
-        if io::read_full(stored, &mut case) < 1357 {
+        if reading::read_full(&mut stored, &mut case).size < 1357 {
             break;
         }
         tally = tally::counted(tally, agrees(&case));
     }
-    tally::print(tally);
+    tally::print(&rt, tally)
 }

@@ -5,6 +5,8 @@
 ghost use Rattle.std.specs.Prelude.{◌≤◌, length};
 
 use model::CutSetsAnswer;
+use std::io;
+use std::io::Read;
 use tally::Tally;
 
 // The case's call.
@@ -22,8 +24,8 @@ fn same_answer(case: &[u8; 680], buffer: &mut [u8], expected: &[u8]) -> bool {
 }
 
 // Whether a case agrees whose buffer has this room. The bytes that the buffer is to hold follow the case.
-fn compare(
-    stored: i32,
+fn compare<R: Read>(
+    stored: &mut R,
     case: &[u8; 680],
     room: usize,
     buffer: &mut [u8],
@@ -31,12 +33,12 @@ fn compare(
 ) -> bool
     requires { (room ≤ length buffer.old) × (room ≤ length expected.old) }
 {
-    let got = io::read_full(stored, &mut expected[..room]);
+    let got = reading::read_full(stored, &mut expected[..room]).size;
     got == room && same_answer(case, &mut buffer[..room], &expected[..room])
 }
 
 // Whether a case agrees; none has a longer buffer than 1024.
-fn agrees(stored: i32, case: &[u8; 680]) -> bool {
+fn agrees<R: Read>(stored: &mut R, case: &[u8; 680]) -> bool {
     let room = loads::number_at(case, 675) as usize;
     if 1024 < room {
         return false;
@@ -46,18 +48,18 @@ fn agrees(stored: i32, case: &[u8; 680]) -> bool {
     compare(stored, case, room, &mut buffer, &mut expected)
 }
 
-fn main() {
-    let stored = tally::stored();
+fn main(rt: HostRuntime) -> io::Result<()> {
+    let mut stored = tally::stored(&rt)?;
     let mut tally = Tally {
         cases: 0,
         differ: 0,
     };
     for _ in 0..100000usize {
         let mut case = [0u8; 680];
-        if io::read_full(stored, &mut case) < 680 {
+        if reading::read_full(&mut stored, &mut case).size < 680 {
             break;
         }
-        tally = tally::counted(tally, agrees(stored, &case));
+        tally = tally::counted(tally, agrees(&mut stored, &case));
     }
-    tally::print(tally);
+    tally::print(&rt, tally)
 }

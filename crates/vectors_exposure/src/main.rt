@@ -6,6 +6,7 @@ ghost use Rattle.std.specs.Prelude.{not, T};
 ghost use Rattle.std.specs.Float.Ieee.{is_nan};
 
 use model::Exposure;
+use std::io;
 use tally::Tally;
 
 // Whether the figures are the simulation's: "Bits must equal this recipe's." Of a NaN none could be told; no answer has one.
@@ -25,18 +26,18 @@ fn agrees(case: &[u8; 1234]) -> bool {
     cases::outcome_number(outcome) == case[1215] && same_figures(case, answer.exposure)
 }
 
-fn main() {
-    let stored = tally::stored();
+fn main(rt: HostRuntime) -> io::Result<()> {
+    let mut stored = tally::stored(&rt)?;
     let mut tally = Tally {
         cases: 0,
         differ: 0,
     };
     for _ in 0..100000usize {
         let mut case = [0u8; 1234];
-        if io::read_full(stored, &mut case) < 1234 {
+        if reading::read_full(&mut stored, &mut case).size < 1234 {
             break;
         }
         tally = tally::counted(tally, agrees(&case));
     }
-    tally::print(tally);
+    tally::print(&rt, tally)
 }

@@ -2,6 +2,7 @@
 #![tactic(auto)]
 
 use model::{BusFeed, Feed, FeedsAnswer};
+use std::io;
 use tally::Tally;
 
 // Whether a bus's answer is the three bytes: 0 dark, 1 fed, 2 a clash, and the generators named.
@@ -34,18 +35,18 @@ fn agrees(case: &[u8; 202]) -> bool {
     cases::outcome_number(outcome) == case[141] && same_feeds(answer, case)
 }
 
-fn main() {
-    let stored = tally::stored();
+fn main(rt: HostRuntime) -> io::Result<()> {
+    let mut stored = tally::stored(&rt)?;
     let mut tally = Tally {
         cases: 0,
         differ: 0,
     };
     for _ in 0..100000usize {
         let mut case = [0u8; 202];
-        if io::read_full(stored, &mut case) < 202 {
+        if reading::read_full(&mut stored, &mut case).size < 202 {
             break;
         }
         tally = tally::counted(tally, agrees(&case));
     }
-    tally::print(tally);
+    tally::print(&rt, tally)
 }

@@ -5,6 +5,8 @@
 ghost use Rattle.std.specs.Prelude.{◌≤◌, length};
 
 use model::StateAnswer;
+use std::io;
+use std::io::Read;
 use tally::Tally;
 
 // The case's call.
@@ -19,33 +21,39 @@ fn same_answer(case: &[u8; 1583], buffer: &mut [u8], expected: &[u8]) -> bool {
 }
 
 // Whether a case agrees whose buffer has this room. The bytes that the buffer is to hold follow the case.
-fn compare(stored: i32, case: &[u8; 1583], room: u8, buffer: &mut [u8], expected: &mut [u8]) -> bool
+fn compare<R: Read>(
+    stored: &mut R,
+    case: &[u8; 1583],
+    room: u8,
+    buffer: &mut [u8],
+    expected: &mut [u8],
+) -> bool
     requires { (255 ≤ length buffer.old) × (255 ≤ length expected.old) }
 {
     let end = room as usize;
-    let got = io::read_full(stored, &mut expected[..end]);
+    let got = reading::read_full(stored, &mut expected[..end]).size;
     got == end && same_answer(case, &mut buffer[..end], &expected[..end])
 }
 
 // Whether a case agrees. A byte of it is the buffer's length, so that 255 places hold every buffer.
-fn agrees(stored: i32, case: &[u8; 1583]) -> bool {
+fn agrees<R: Read>(stored: &mut R, case: &[u8; 1583]) -> bool {
     let mut buffer = [170u8; 255];
     let mut expected = [0u8; 255];
     compare(stored, case, case[867], &mut buffer, &mut expected)
 }
 
-fn main() {
-    let stored = tally::stored();
+fn main(rt: HostRuntime) -> io::Result<()> {
+    let mut stored = tally::stored(&rt)?;
     let mut tally = Tally {
         cases: 0,
         differ: 0,
     };
     for _ in 0..100000usize {
         let mut case = [0u8; 1583];
-        if io::read_full(stored, &mut case) < 1583 {
+        if reading::read_full(&mut stored, &mut case).size < 1583 {
             break;
         }
-        tally = tally::counted(tally, agrees(stored, &case));
+        tally = tally::counted(tally, agrees(&mut stored, &case));
     }
-    tally::print(tally);
+    tally::print(&rt, tally)
 }
