@@ -7,8 +7,7 @@ use borrow.Author.Tests.{lt-ltb, le-ltb}
 use lib.Ieee.{Float, nan, inf, fin, binary64, is_nan, of_bits, div}
 use lib.Ieee.Bits.{nan_bits_is, nan_bits_above}
 use Rattle.model.specs.Laws.Tests.{contra}
-use Rattle.datasheets.proofs.float_of.Statement.{statement}
-use Rattle.datasheets.proofs.float_of.Tie as tie
+use Rattle.datasheets.proofs.float_of.Goals as goal
 
 -- there is one NaN
 is-nan : (x : Float) → is_nan x ≡ true → nan ≡ x
@@ -22,14 +21,10 @@ no_number : div binary64 (of_bits binary64 0) (of_bits binary64 0) ≡ nan
 unfolding div of_bits
 no_number = refl
 
-float-from-bits-result : tie.Need-float-from-bits-result
-float-from-bits-result c =
-    subst (λ b. T (not b)) (sym (nan_bits_above binary64 c.before.args.bits ∙ le-ltb _ _ c.if1.false)) tt
+pub float_from_bits-result : goal.float_from_bits-result
+float_from_bits-result c =
+    subst (λ b. T (not b)) (sym (nan_bits_above binary64 c.args.bits ∙ le-ltb _ _ c.if-bits-gt9218868437227405312.false)) tt
 
-returns : tie.Need-returns
-returns c =
-    let bits = c.before.args.bits in
-    no_number ∙ is-nan _ (sym (nan_bits_is binary64 bits) ∙ nan_bits_above binary64 bits ∙ lt-ltb _ _ c.if1.true)
-
-pub float-of-spec : {M : Type 1} → statement M
-float-of-spec = tie.close (tie.spec float-from-bits-result returns (λ c. search rules))
+pub returns-then-bits-gt9218868437227405312 : goal.returns-then-bits-gt9218868437227405312
+returns-then-bits-gt9218868437227405312 c =
+    no_number ∙ is-nan _ (sym (nan_bits_is binary64 c.args.bits) ∙ nan_bits_above binary64 c.args.bits ∙ lt-ltb _ _ c.if-bits-gt9218868437227405312.true)

@@ -1,0 +1,6 @@
+-- `datasheets::float_at` meets its contract.
+use borrow.Author.Rules.{rules}
+use Rattle.datasheets.proofs.float_at.Goals as goal
+
+pub returns : goal.returns
+returns c = cc

@@ -1,0 +1,9 @@
+-- `datasheets::rate_by` meets its contract.
+use Rattle.model.specs.Laws.Tests.{auto}
+use Rattle.datasheets.proofs.rate_by.Goals as goal
+
+pub returns-in-0 : goal.returns-in-0
+returns-in-0 c = rw c.in-0.is
+
+pub returns-in-1 : goal.returns-in-1
+returns-in-1 c = rw c.in-1.is

@@ -1,0 +1,6 @@
+-- `datasheets::rates_at` meets its contract.
+use borrow.Author.Rules.{rules}
+use Rattle.datasheets.proofs.rates_at.Goals as goal
+
+pub returns : goal.returns
+returns c = cc
