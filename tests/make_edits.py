@@ -13,8 +13,8 @@ DOCUMENT = os.path.join(ROOT, "docs", "EDITS.md")
 HEAD = """# Wrong programs
 
 An edit, `crates/CRATE/must-fail/EDIT.edit`, makes a wrong program out of the right one, and the gate refuses it. A table a crate: what the
-edited program does, with the demand that it breaks where the specification names one, and the fact that fails. After a run of the gate
-the error stands in `target/must-fail/CRATE/EDIT/.log`. `tests/make_edits.py` makes this page from the edits.
+edited program does, with the demand that it breaks where the specification names one, and the fact that fails. The gate prints the error
+that refuses each. `tests/make_edits.py` makes this page from the edits.
 """
 
 

@@ -41,6 +41,13 @@ class Gate(unittest.TestCase):
         lines, status = self.ended("echo '8 passed, 0 failed'\nexit 3\n")
         self.assertEqual((lines[-1], status), ("rt ci failed with status 3", 3))
 
+    def test_an_edit_is_bad(self):
+        said = "rt: ok; handles allowed: none; must-fail edits: 5 refused%s; every proof was done in this run"
+        lines, status = self.ended("echo '%s'\necho '9 passed, 0 failed'\n" % (said % ", 2 bad"))
+        self.assertEqual((lines[-2:], status), (["9 passed, 0 failed", "must-fail edits are bad: " + said[4:] % ", 2 bad"], 1))
+        lines, status = self.ended("echo '%s'\necho '9 passed, 0 failed'\n" % (said % ""))
+        self.assertEqual((lines[-1], status), ("9 passed, 0 failed", 0))
+
     def test_the_tools_fail(self):
         lines, status = self.ended("echo '9 passed, 0 failed'\n", "self.fail()")
         self.assertEqual((lines[-2:], status), (["9 passed, 0 failed", "the tests of the tools failed"], 1))
