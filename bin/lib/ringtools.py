@@ -169,25 +169,32 @@ def newest_source(name):
     """When a file that the program is made of was last changed; a folder's time tells of files that have gone."""
     times = [os.stat(os.path.join(ROOT, "crates.txt")).st_mtime]
     for crate in crates_of(name):
-        for folder, _, files in os.walk(os.path.join(ROOT, "crates", crate)):
-            times += [os.stat(path).st_mtime for path in [folder] + [os.path.join(folder, f) for f in files]]
+        for part in ("src", "specs", "proofs"):
+            for folder, _, files in os.walk(os.path.join(ROOT, "crates", crate, part)):
+                times += [os.stat(path).st_mtime for path in [folder] + [os.path.join(folder, f) for f in files]]
     return max(times)
+
+
+def program_path(name):
+    """Where the kit puts a program that it has built."""
+    return os.path.join(ROOT, "crates", name, "out", name)
 
 
 def built(name, tool):
     """The path of a program, proved and built where it is missing or older than its sources."""
-    program = os.path.join(ROOT, "target", "bin", name)
+    program = program_path(name)
     if os.access(program, os.X_OK) and os.stat(program).st_mtime >= newest_source(name):
         return program
     say(tool, "proving and building %s first; from nothing this takes some minutes .." % name)
     begun = time.time()
+    # `rt run` also runs what it has built: here on an empty input
     try:
-        check = subprocess.run(["rt", "check", name], cwd=ROOT, stdin=subprocess.DEVNULL, stdout=subprocess.PIPE,
-                               stderr=subprocess.STDOUT)
+        run = subprocess.run(["rt", "run"], cwd=os.path.join(ROOT, "crates", name), stdin=subprocess.DEVNULL, stdout=subprocess.PIPE,
+                             stderr=subprocess.STDOUT)
     except OSError:
         raise Failure("the Rattle kit's command `rt` is not on the path: %s cannot be built" % name)
-    if check.returncode != 0 or not os.access(program, os.X_OK):
-        complain(check.stdout.decode("utf-8", "replace"))
+    if run.returncode != 0 or not os.access(program, os.X_OK):
+        complain(run.stdout.decode("utf-8", "replace"))
         raise Failure("%s was not built" % name)
     os.utime(program, (begun, begun))
     return program

@@ -1,7 +1,7 @@
 """bin/ringview [FILE] > ring.html: a fault file's run as a page to look at, stroke by stroke, in any browser.
 
 The file is a fault file or readable lines, as for bin/ringctl; one of no bytes stands for a ring of three without reports. The
-page needs no network. What feeds each bus after every stroke is reckoned by the proved plant reckoning (target/bin/ringtrace);
+page needs no network. What feeds each bus after every stroke is reckoned by the proved plant reckoning (crates/ringtrace);
 the page reckons nothing.
 Status: 0 served, 1 refused (and no page), 2 nothing could be read or written.
 """

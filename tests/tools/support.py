@@ -50,7 +50,7 @@ def tool(name, *words, data=b"", **options):
 
 def program(name, data=b"", **options):
     """A built program itself."""
-    return run([path("target", "bin", name)], data, **options)
+    return run([path("crates", name, "out", name)], data, **options)
 
 
 def stored_runs():

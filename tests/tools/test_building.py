@@ -16,10 +16,10 @@ class Building(ToolCase):
         self.addCleanup(kept.cleanup)
         self.folder = kept.name
         shutil.copytree(path("bin"), self.at("bin"), symlinks=True)
-        self.write("crates.txt", "model:\nother:\nringctl: model io  # the program\n")
+        self.write("crates.txt", "model:\nother:\nringctl: model check  # the program\n")
         for crate in ("model", "other", "ringctl"):
             self.write("crates/%s/src/lib.rt" % crate, "")
-        self.kit("mkdir -p target/bin && printf '%s' \"$PROGRAM\" > target/bin/$2 && chmod +x target/bin/$2")
+        self.kit("mkdir -p out && printf '%s' \"$PROGRAM\" > out/ringctl && chmod +x out/ringctl")
 
     def at(self, name):
         return os.path.join(self.folder, name)
@@ -53,7 +53,7 @@ class Building(ToolCase):
     def test_builds_again_after_a_change(self):
         self.ring()
         for name, wanted in (("crates/other/src/lib.rt", 1), ("crates/model/src/lib.rt", 2), ("crates.txt", 3)):
-            later = os.stat(self.at("target/bin/ringctl")).st_mtime + 5
+            later = os.stat(self.at("crates/ringctl/out/ringctl")).st_mtime + 5
             os.utime(self.at(name), (later, later))
             self.ring()
             self.assertEqual(self.calls(), wanted, name)
@@ -74,7 +74,7 @@ class Building(ToolCase):
         self.ring()
         for text, said in (("cat > /dev/null\nexit 3\n", "ended with status 3"), ("cat > /dev/null\n", "printed nothing"),
                            ("echo ring 3\necho 'ringctl: standard output cannot be written' >&2\n", "^ringctl: standard output cannot be written\n$")):
-            self.write("target/bin/ringctl", "#!/bin/sh\n" + text)
+            self.write("crates/ringctl/out/ringctl", "#!/bin/sh\n" + text)
             self.check(self.ring(), 2, b"", said)
 
 

@@ -152,7 +152,7 @@ class Programs(ToolCase):
 
     def test_a_closed_input_is_no_empty_file(self):
         for name in ("ringctl", "ringcuts", "ringtrace"):
-            answer = run(["sh", "-c", path("target", "bin", name) + " <&-"])
+            answer = run(["sh", "-c", path("crates", name, "out", name) + " <&-"])
             self.assertEqual((answer.out, answer.said), (b"", "%s: standard input cannot be read\n" % name))
 
 

@@ -23,7 +23,7 @@ class Programs(unittest.TestCase):
     def test_input_in_portions(self):
         """A file may come in any number of reads: here in two, one byte and the rest."""
         data, text = max(stored_runs(), key=lambda run: len(run[1]))
-        running = subprocess.Popen([path("target", "bin", "ringctl")], stdin=subprocess.PIPE, stdout=subprocess.PIPE)
+        running = subprocess.Popen([path("crates", "ringctl", "out", "ringctl")], stdin=subprocess.PIPE, stdout=subprocess.PIPE)
         running.stdin.write(data[:1])
         running.stdin.flush()
         time.sleep(0.2)
@@ -52,7 +52,7 @@ class Programs(unittest.TestCase):
             made = run([sys.executable, "-B", path("tests", "make_vectors.py"), "--seed", "14", "--out", folder])
             self.assertEqual(made.status, 0, made.said)
             for name in ("vectors", "vectors_plant", "vectors_step", "vectors_cuts", "vectors_scan", "vectors_book", "vectors_exposure"):
-                if os.access(path("target", "bin", name), os.X_OK):
+                if os.access(path("crates", name, "out", name), os.X_OK):
                     with self.subTest(name):
                         answer = program(name, cwd=os.path.join(folder, name))
                         self.assertRegex(answer.out.decode(), "^[0-9]+ cases, 0 differ\n$")

@@ -126,7 +126,7 @@ class Program(ToolCase):
             self.assertEqual((answer.out, answer.said, answer.status), (b"", "ringchance: the rates are broken off\n", 0))
 
     def test_input_in_portions(self):
-        running = subprocess.Popen([path("target", "bin", "ringchance")], stdin=subprocess.PIPE, stdout=subprocess.PIPE)
+        running = subprocess.Popen([path("crates", "ringchance", "out", "ringchance")], stdin=subprocess.PIPE, stdout=subprocess.PIPE)
         for piece in (INPUT[:1], INPUT[1:100], INPUT[100:541]):
             running.stdin.write(piece)
             running.stdin.flush()

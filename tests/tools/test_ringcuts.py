@@ -142,7 +142,7 @@ class Program(ToolCase):
                 self.assertFalse({"G%d" % k for k in numbers} & {name for sets in sets_of(text) for parts in sets for name in parts})
 
     def test_input_in_portions(self):
-        running = subprocess.Popen([path("target", "bin", "ringcuts")], stdin=subprocess.PIPE, stdout=subprocess.PIPE)
+        running = subprocess.Popen([path("crates", "ringcuts", "out", "ringcuts")], stdin=subprocess.PIPE, stdout=subprocess.PIPE)
         running.stdin.write(FILE[:1])
         running.stdin.flush()
         time.sleep(0.2)

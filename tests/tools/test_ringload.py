@@ -202,7 +202,7 @@ class Program(unittest.TestCase):
             self.assertEqual((answer.out, answer.said, answer.status), (b"".join(lines[:1 + (end - 1) // 194]), said, 0), end)
 
     def test_a_line_comes_before_the_next_call_is_read(self):
-        running = subprocess.Popen([path("target", "bin", "ringload")], stdin=subprocess.PIPE, stdout=subprocess.PIPE)
+        running = subprocess.Popen([path("crates", "ringload", "out", "ringload")], stdin=subprocess.PIPE, stdout=subprocess.PIPE)
         self.addCleanup(running.wait)
         self.addCleanup(running.stdout.close)
         self.addCleanup(running.stdin.close)
@@ -213,7 +213,7 @@ class Program(unittest.TestCase):
             self.assertEqual(running.stdout.readline(), line)
 
     def test_input_in_portions(self):
-        running = subprocess.Popen([path("target", "bin", "ringload")], stdin=subprocess.PIPE, stdout=subprocess.PIPE)
+        running = subprocess.Popen([path("crates", "ringload", "out", "ringload")], stdin=subprocess.PIPE, stdout=subprocess.PIPE)
         data = make_vectors.loads_file(*make_vectors.gate_loads())
         for piece in (data[:1], data[1:100], data[100:195]):
             running.stdin.write(piece)

@@ -134,7 +134,7 @@ class Program(unittest.TestCase):
             self.assertEqual((answer.out, answer.said, answer.status), (b"".join(lines[:1 + (end - 1) // 193]), said, 0), end)
 
     def test_input_in_portions(self):
-        running = subprocess.Popen([path("target", "bin", "ringscan")], stdin=subprocess.PIPE, stdout=subprocess.PIPE)
+        running = subprocess.Popen([path("crates", "ringscan", "out", "ringscan")], stdin=subprocess.PIPE, stdout=subprocess.PIPE)
         data = make_vectors.scans_file(*make_vectors.gate_scans())
         for piece in (data[:1], data[1:100], data[100:194]):
             running.stdin.write(piece)
@@ -143,7 +143,7 @@ class Program(unittest.TestCase):
         self.assertEqual(running.communicate(data[194:])[0], text_of(*make_vectors.gate_scans()))
 
     def test_a_line_comes_before_the_next_call_is_read(self):
-        running = subprocess.Popen([path("target", "bin", "ringscan")], stdin=subprocess.PIPE, stdout=subprocess.PIPE)
+        running = subprocess.Popen([path("crates", "ringscan", "out", "ringscan")], stdin=subprocess.PIPE, stdout=subprocess.PIPE)
         self.addCleanup(running.wait)
         self.addCleanup(running.stdout.close)
         self.addCleanup(running.stdin.close)
