@@ -1,0 +1,48 @@
+-- `records::bad_load` meets its contract: the four conditions of refusal 9 on a load, in turn.
+use mathlib.Core.Path.{◌≡◌}
+use mathlib.Core.Bool.{false}
+use Prim.Native.Nat.{◌≤◌}
+use native.Mathlib.Omega.{arith}
+use Rattle.model.specs.Lists.{any_of}
+use Rattle.model.specs.Bookings.{live_bookings, live_twice, booking_outside}
+use Rattle.model.specs.Laws.Tests.{facts}
+use Rattle.model.specs.Laws.Bookings.{all_bookable}
+use Rattle.components.specs.Tests.{is_false, outcomes}
+use Rattle.records.specs.Records.{load_bad, figures_decide}
+use Rattle.records.proofs.bad_load.Goals as goal
+use Rattle.records.proofs.bad_load.Goals.{Else-any_outside}
+
+-- what the passed checks say
+passed : (c : Else-any_outside)
+    → ((c.args.load.live ≤ 64)
+    × (live_twice (live_bookings c.args.load) ≡ false)
+    × (any_of (booking_outside c.args.n) (live_bookings c.args.load) ≡ false))
+passed c = (omega (arith, facts), is_false _ (λ e. search outcomes), is_false _ (λ e. search outcomes))
+
+pub returns-then-load-gt64 : goal.returns-then-load-gt64
+returns-then-load-gt64 c = load_bad _ _ c.args.load (λ a b d. omega (arith, facts))
+
+pub live_twice-requires : goal.live_twice-requires
+live_twice-requires c = omega (arith, facts)
+
+pub returns-then-live_twice : goal.returns-then-live_twice
+returns-then-live_twice c = load_bad _ _ c.args.load (λ a b d. search outcomes)
+
+pub any_outside-requires : goal.any_outside-requires
+any_outside-requires c = omega (arith, facts)
+
+pub returns-then-any_outside : goal.returns-then-any_outside
+returns-then-any_outside c = load_bad _ _ c.args.load (λ a b d. search outcomes)
+
+-- nothing is added up before the watts are looked at
+pub other_figures-requires-clause-live : goal.other_figures-requires-clause-live
+other_figures-requires-clause-live c = (passed (goal.at.other_figures-requires-clause-live c).Else-any_outside).0
+
+pub other_figures-requires-clause-ring : goal.other_figures-requires-clause-ring
+other_figures-requires-clause-ring c =
+    let p = passed (goal.at.other_figures-requires-clause-ring c).Else-any_outside in record { n = c.args.n; small = c.requires.0; inside = c.requires.1; bookable = all_bookable _ _ p.2 }
+
+pub returns : goal.returns
+returns c =
+    let p = passed (goal.at.returns c).Else-any_outside in
+    figures_decide _ _ c.args.load p.0 p.1 p.2 _ (search outcomes)
