@@ -46,6 +46,7 @@ pub fn is_unrated(rate: Rate) -> bool
 }
 
 // 15: "a chance not from 0 to 1". No comparison holds of a NaN, so one is refused.
+#[tactic(auto, using(crate::specs::Tests::chance_first, crate::specs::Tests::chance_second))]
 fn chance_outside(chance: f64) -> bool
     ensures { result ≡ not (le float0 chance && le chance float1) }
 {
