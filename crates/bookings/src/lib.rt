@@ -17,6 +17,7 @@ ghost use Rattle.model.specs.Bookings.{
 use model::{Booking, Load};
 
 // 12: "watts outside the range"
+#[tactic(auto, unfolding(model::specs::Bookings::watts_outside))]
 pub fn watts_outside(watts: u32) -> bool
     ensures { result ≡ watts_outside watts }
 {
