@@ -3,6 +3,7 @@ use mathlib.Core.Path.{◌≡◌, ◌∙◌}
 use Prim.Native.Nat.{◌+◌, ◌≤◌}
 use native.Mathlib.Omega.{arith}
 use lib.ListN.{length, length-set}
+use borrow.Author.Rules.{rules}
 use Rattle.model.specs.Text.{ascii}
 use Rattle.model.specs.Laws.Appended.{appended_one, appended_more}
 use Rattle.numbers.specs.Numbers.{decimal_end}
