@@ -1,10 +1,8 @@
 -- `cases::bytes_at` meets its contract. The loop's invariant: the places below i are filled.
-use mathlib.Core.Path.{◌≡◌, ◌∙◌}
-use Prim.Native.Nat.{◌+◌, ◌-◌, ◌≤◌}
+use mathlib.Core.Path.{◌∙◌}
 use native.Mathlib.Nat.{le_antisymm}
-use lib.ListN.{get_or}
 use borrow.Author.Rules.{rules}
-use Rattle.model.specs.Laws.Parts.{filled_to, filled_none, filled_more, filled_all}
+use Rattle.model.specs.Laws.Parts.{filled_none, filled_more, filled_all}
 use Rattle.cases.proofs.bytes_at.Goals as goal
 
 pub loop-i-init : goal.loop-i-init

@@ -1,10 +1,8 @@
 -- `cases::bytes_at` meets its contract. The loop's invariant: the places below i are filled.
-use mathlib.Core.Path.{◌≡◌, ◌∙◌}
+use mathlib.Core.Path.{◌≡◌}
 use Prim.Native.Nat.{◌+◌, ◌-◌, ◌≤◌}
-use native.Mathlib.Nat.{le_antisymm}
 use lib.ListN.{get_or}
-use borrow.Author.Rules.{rules}
-use Rattle.model.specs.Laws.Parts.{filled_to, filled_none, filled_more, filled_all}
+use Rattle.model.specs.Laws.Parts.{filled_to}
 use Rattle.cases.proofs.bytes_at.Given as goal
 
 abbrev pub invariant-loop-i : goal.invariant-loop-i

@@ -1,5 +1,4 @@
 -- `cases::commands_at` meets its contract.
-use borrow.Author.Rules.{rules}
 use Rattle.cases.proofs.commands_at.Goals as goal
 
 pub returns : goal.returns

@@ -1,5 +1,4 @@
 -- `cases::health_at` meets its contract.
-use borrow.Author.Rules.{rules}
 use Rattle.cases.proofs.health_at.Goals as goal
 
 pub returns : goal.returns

@@ -1,5 +1,4 @@
 -- `cases::ring_at` meets its contract.
-use borrow.Author.Rules.{rules}
 use Rattle.cases.proofs.ring_at.Goals as goal
 
 pub returns : goal.returns
