@@ -1,5 +1,4 @@
 -- `datasheets::float_at` meets its contract.
-use borrow.Author.Rules.{rules}
 use Rattle.datasheets.proofs.float_at.Goals as goal
 
 pub returns : goal.returns

@@ -1,5 +1,4 @@
 -- `datasheets::rate_at` meets its contract.
-use borrow.Author.Rules.{rules}
 use Rattle.datasheets.proofs.rate_at.Goals as goal
 
 pub returns : goal.returns

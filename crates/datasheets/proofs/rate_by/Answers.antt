@@ -1,5 +1,4 @@
 -- `datasheets::rate_by` meets its contract.
-use Rattle.model.specs.Laws.Tests.{auto}
 use Rattle.datasheets.proofs.rate_by.Goals as goal
 
 pub returns-in-0 : goal.returns-in-0

@@ -1,5 +1,4 @@
 -- `datasheets::rates_at` meets its contract.
-use borrow.Author.Rules.{rules}
 use Rattle.datasheets.proofs.rates_at.Goals as goal
 
 pub returns : goal.returns

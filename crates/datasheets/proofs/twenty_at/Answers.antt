@@ -1,11 +1,9 @@
 -- `datasheets::twenty_at` meets its contract. The loop's invariant: the places below i are filled.
-use mathlib.Core.Path.{◌≡◌, ◌∙◌}
-use Prim.Native.Nat.{◌+◌, ◌*◌, ◌-◌, ◌≤◌}
+use mathlib.Core.Path.{◌∙◌}
 use native.Mathlib.Nat.{le_antisymm}
 use borrow.Author.Rules.{rules}
 use Rattle.model.specs.Exposure.{unrated}
-use Rattle.model.specs.Laws.Parts.{filled_to, filled_none, filled_more, filled_all}
-use Rattle.datasheets.specs.Rates.{rate_at}
+use Rattle.model.specs.Laws.Parts.{filled_none, filled_more, filled_all}
 use Rattle.datasheets.proofs.twenty_at.Goals as goal
 
 pub loop-i-init : goal.loop-i-init

@@ -1,10 +1,8 @@
 -- `datasheets::twenty_at` meets its contract. The loop's invariant: the places below i are filled.
-use mathlib.Core.Path.{◌≡◌, ◌∙◌}
+use mathlib.Core.Path.{◌≡◌}
 use Prim.Native.Nat.{◌+◌, ◌*◌, ◌-◌, ◌≤◌}
-use native.Mathlib.Nat.{le_antisymm}
-use borrow.Author.Rules.{rules}
 use Rattle.model.specs.Exposure.{unrated}
-use Rattle.model.specs.Laws.Parts.{filled_to, filled_none, filled_more, filled_all}
+use Rattle.model.specs.Laws.Parts.{filled_to}
 use Rattle.datasheets.specs.Rates.{rate_at}
 use Rattle.datasheets.proofs.twenty_at.Given as goal
 

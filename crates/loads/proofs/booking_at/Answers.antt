@@ -1,5 +1,4 @@
 -- `loads::booking_at` meets its contract.
-use borrow.Author.Rules.{rules}
 use Rattle.loads.proofs.booking_at.Goals as goal
 
 pub returns : goal.returns

@@ -1,8 +1,7 @@
 -- `loads::bookings_at` meets its contract. The loop's invariant: the places below i are filled.
-use Prim.Native.Nat.{◌≤◌, ◌-◌}
 use native.Mathlib.Omega.{arith}
 use borrow.Author.Rules.{rules}
-use Rattle.loads.specs.Loads.{Booked, booked_none, booked_more, booked_all}
+use Rattle.loads.specs.Loads.{booked_none, booked_more, booked_all}
 use Rattle.loads.proofs.bookings_at.Goals as goal
 
 pub loop-i-init : goal.loop-i-init

@@ -1,8 +1,6 @@
 -- `loads::bookings_at` meets its contract. The loop's invariant: the places below i are filled.
 use Prim.Native.Nat.{◌≤◌, ◌-◌}
-use native.Mathlib.Omega.{arith}
-use borrow.Author.Rules.{rules}
-use Rattle.loads.specs.Loads.{Booked, booked_none, booked_more, booked_all}
+use Rattle.loads.specs.Loads.{Booked}
 use Rattle.loads.proofs.bookings_at.Given as goal
 
 abbrev pub invariant-loop-i : goal.invariant-loop-i

@@ -1,10 +1,8 @@
 -- `loads::figures_at` meets its contract. The loop's invariant: the places below g are filled.
-use mathlib.Core.Path.{◌≡◌, ◌∙◌}
-use Prim.Native.Nat.{◌+◌, ◌*◌, ◌-◌, ◌≤◌}
+use mathlib.Core.Path.{◌∙◌}
 use native.Mathlib.Nat.{le_antisymm}
 use borrow.Author.Rules.{rules}
-use Rattle.model.specs.Laws.Parts.{filled_to, filled_none, filled_more, filled_all}
-use Rattle.loads.specs.Loads.{watts_at}
+use Rattle.model.specs.Laws.Parts.{filled_none, filled_more, filled_all}
 use Rattle.loads.proofs.figures_at.Goals as goal
 
 pub loop-g-init : goal.loop-g-init

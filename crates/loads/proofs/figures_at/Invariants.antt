@@ -1,9 +1,7 @@
 -- `loads::figures_at` meets its contract. The loop's invariant: the places below g are filled.
-use mathlib.Core.Path.{◌≡◌, ◌∙◌}
+use mathlib.Core.Path.{◌≡◌}
 use Prim.Native.Nat.{◌+◌, ◌*◌, ◌-◌, ◌≤◌}
-use native.Mathlib.Nat.{le_antisymm}
-use borrow.Author.Rules.{rules}
-use Rattle.model.specs.Laws.Parts.{filled_to, filled_none, filled_more, filled_all}
+use Rattle.model.specs.Laws.Parts.{filled_to}
 use Rattle.loads.specs.Loads.{watts_at}
 use Rattle.loads.proofs.figures_at.Given as goal
 

@@ -1,5 +1,4 @@
 -- `loads::load_at` meets its contract.
-use borrow.Author.Rules.{rules}
 use Rattle.loads.proofs.load_at.Goals as goal
 
 pub returns : goal.returns

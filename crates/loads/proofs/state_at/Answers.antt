@@ -1,5 +1,4 @@
 -- `loads::state_at` meets its contract.
-use borrow.Author.Rules.{rules}
 use Rattle.loads.proofs.state_at.Goals as goal
 
 pub returns : goal.returns
