@@ -1,9 +1,8 @@
 -- `comparing::same_commands` meets its contract. The loop's invariant: the commands of the places passed are the same.
-use Prim.Native.Nat.{◌≤◌, ◌-◌}
 use native.Mathlib.Nat.{le_antisymm}
 use borrow.Author.Rules.{rules}
 use Rattle.model.specs.Laws.Tests.{never, compared}
-use Rattle.comparing.specs.Comparing.{SameTo, same_none, same_more, same_all, agree}
+use Rattle.comparing.specs.Comparing.{same_none, same_more, same_all, agree}
 use Rattle.comparing.proofs.same_commands.Goals as goal
 
 pub loop-i-init : goal.loop-i-init

@@ -1,6 +1,4 @@
 -- `comparing::same_health` meets its contract: the three arrays are the same, and the locks.
-use borrow.Author.Rules.{rules}
-use borrow.Author.Tests.{not-false}
 use Rattle.model.specs.Laws.Tests.{never}
 use Rattle.comparing.proofs.same_health.Goals as goal
 

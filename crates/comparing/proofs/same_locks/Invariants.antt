@@ -1,10 +1,7 @@
 -- `comparing::same_locks` meets its contract. The loop's invariant: the locks of the places passed are the same.
 use mathlib.Core.Bool.{false}
 use Prim.Native.Nat.{◌≤◌, ◌-◌}
-use native.Mathlib.Nat.{le_antisymm}
-use borrow.Author.Rules.{rules}
-use Rattle.model.specs.Laws.Tests.{never, compared}
-use Rattle.comparing.specs.Comparing.{AlikeTo, alike_none, alike_more, alike_all, agree}
+use Rattle.comparing.specs.Comparing.{AlikeTo}
 use Rattle.comparing.proofs.same_locks.Given as goal
 
 abbrev pub invariant-loop-i : goal.invariant-loop-i

@@ -1,6 +1,4 @@
 -- `comparing::same_ring` meets its contract.
-use borrow.Author.Rules.{rules}
-use borrow.Author.Tests.{not-false}
 use Rattle.model.specs.Laws.Tests.{never}
 use Rattle.comparing.proofs.same_ring.Goals as goal
 
