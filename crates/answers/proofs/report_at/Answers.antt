@@ -1,5 +1,4 @@
 -- `answers::report_at` meets its contract.
-use borrow.Author.Rules.{rules}
 use Rattle.answers.proofs.report_at.Goals as goal
 
 pub returns : goal.returns

@@ -1,8 +1,7 @@
 -- `answers::reports_at` meets its contract. The loop's invariant: the places before the i-th are those of the scan.
-use Prim.Native.Nat.{◌≤◌, ◌-◌}
 use native.Mathlib.Omega.{arith}
 use borrow.Author.Rules.{rules}
-use Rattle.answers.specs.Answers.{Placed, placed_none, placed_more, placed_all}
+use Rattle.answers.specs.Answers.{placed_none, placed_more, placed_all}
 use Rattle.answers.proofs.reports_at.Goals as goal
 
 pub loop-i-init : goal.loop-i-init

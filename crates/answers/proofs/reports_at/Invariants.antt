@@ -1,8 +1,6 @@
 -- `answers::reports_at` meets its contract. The loop's invariant: the places before the i-th are those of the scan.
 use Prim.Native.Nat.{◌≤◌, ◌-◌}
-use native.Mathlib.Omega.{arith}
-use borrow.Author.Rules.{rules}
-use Rattle.answers.specs.Answers.{Placed, placed_none, placed_more, placed_all}
+use Rattle.answers.specs.Answers.{Placed}
 use Rattle.answers.proofs.reports_at.Given as goal
 
 abbrev pub invariant-loop-i : goal.invariant-loop-i

@@ -1,6 +1,4 @@
 -- `answers::same` meets its contract.
-use borrow.Author.Rules.{rules}
-use borrow.Author.Tests.{not-false}
 use Rattle.model.specs.Laws.Tests.{never}
 use Rattle.answers.proofs.same.Goals as goal
 

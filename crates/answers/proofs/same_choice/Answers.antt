@@ -1,5 +1,4 @@
 -- `answers::same_choice` meets its contract: the letter and the source are those of the choice.
-use borrow.Author.Rules.{rules}
 use borrow.Author.Tests.{eqb-true}
 use Rattle.answers.proofs.same_choice.Goals as goal
 

@@ -1,10 +1,8 @@
 -- `answers::same_choices` meets its contract. The loop's invariant: the choices of the buses passed are those of the case.
-use Prim.Native.Nat.{◌≤◌, ◌-◌}
 use native.Mathlib.Omega.{arith}
 use borrow.Author.Rules.{rules}
-use borrow.Author.Tests.{not-false}
 use Rattle.model.specs.Laws.Tests.{never}
-use Rattle.answers.specs.Answers.{ChoicesIn, choices_more}
+use Rattle.answers.specs.Answers.{choices_more}
 use Rattle.answers.proofs.same_choices.Goals as goal
 
 pub loop-b-init : goal.loop-b-init

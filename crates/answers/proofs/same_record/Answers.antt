@@ -1,6 +1,5 @@
 -- `answers::same_record` meets its contract.
 use mathlib.Core.Path.{sym, ◌∙◌}
-use borrow.Author.Rules.{rules}
 use Rattle.model.specs.Laws.Tests.{never}
 use Rattle.answers.proofs.same_record.Goals as goal
 

@@ -1,6 +1,5 @@
 -- `answers::scan_at` meets its contract: the places and the count.
 use mathlib.Core.Path.{sym}
-use borrow.Author.Rules.{rules}
 use Rattle.answers.proofs.scan_at.Goals as goal
 
 pub returns : goal.returns

@@ -1,5 +1,4 @@
 -- `answers::word_of` meets its contract: a word's number is read as the word.
-use borrow.Author.Rules.{rules}
 use Rattle.model.specs.Laws.Tests.{never}
 use Rattle.answers.specs.Answers.{word_answer_lem}
 use Rattle.answers.proofs.word_of.Goals as goal

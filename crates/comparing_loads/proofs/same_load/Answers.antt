@@ -1,7 +1,5 @@
 -- `comparing_loads::same_load` meets its contract: every field is the same.
 use native.Mathlib.Omega.{arith}
-use borrow.Author.Rules.{rules}
-use borrow.Author.Tests.{not-false}
 use Rattle.model.specs.Laws.Tests.{never}
 use Rattle.comparing_loads.specs.Same.{same_loads}
 use Rattle.comparing_loads.proofs.same_load.Goals as goal

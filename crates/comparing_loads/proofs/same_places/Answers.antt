@@ -1,13 +1,9 @@
 -- `comparing_loads::same_places` meets its contract. The loop's invariant: the places passed hold the same.
-use mathlib.Core.Path.{◌≡◌}
-use Prim.Native.Nat.{◌≤◌, ◌-◌}
 use native.Mathlib.Nat.{le_antisymm}
-use lib.ListN.{length, length-map}
 use borrow.Author.Rules.{rules}
-use borrow.Author.Tests.{not-false}
 use Rattle.model.specs.Bookings.{no_booking}
 use Rattle.model.specs.Laws.Tests.{never}
-use Rattle.comparing.specs.Comparing.{AlikeTo, alike_none, alike_more, alike_all}
+use Rattle.comparing.specs.Comparing.{alike_none, alike_more, alike_all}
 use Rattle.comparing_loads.proofs.same_places.Goals as goal
 
 pub loop-i-init : goal.loop-i-init

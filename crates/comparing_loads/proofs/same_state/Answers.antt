@@ -1,6 +1,4 @@
 -- `comparing_loads::same_state` meets its contract.
-use borrow.Author.Rules.{rules}
-use borrow.Author.Tests.{not-false}
 use Rattle.model.specs.Laws.Tests.{never}
 use Rattle.comparing_loads.proofs.same_state.Goals as goal
 

@@ -1,9 +1,8 @@
 -- `comparing_loads::same_watts` meets its contract. The loop's invariant: the figures passed are the same.
-use Prim.Native.Nat.{◌≤◌, ◌-◌}
 use native.Mathlib.Nat.{le_antisymm}
 use borrow.Author.Rules.{rules}
 use Rattle.model.specs.Laws.Tests.{never}
-use Rattle.comparing.specs.Comparing.{AlikeTo, alike_none, alike_more, alike_all}
+use Rattle.comparing.specs.Comparing.{alike_none, alike_more, alike_all}
 use Rattle.comparing_loads.proofs.same_watts.Goals as goal
 
 pub loop-g-init : goal.loop-g-init
