@@ -1,0 +1,11 @@
+-- `exposure::product_at` meets its contract.
+use native.Mathlib.Omega.{arith}
+use lib.Ieee.{of_bits}
+use Rattle.exposure.specs.Sets.{product_of_lem}
+use Rattle.exposure.proofs.product_at.Goals as goal
+
+pub returns : goal.returns
+unfolding of_bits
+returns c =
+    product_of_lem _ _ _ _ _ (omega arith) (omega arith) c.times-first.ensures c.times-second.ensures
+    c.times.ensures

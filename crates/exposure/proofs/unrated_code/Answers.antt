@@ -1,0 +1,25 @@
+-- `exposure::unrated_code` meets its contract.
+use mathlib.Core.Path.{◌≡◌}
+use mathlib.Core.Option.{some}
+use Rattle.model.specs.Plant.{largest}
+use Rattle.model.specs.Reports.{part_named}
+use Rattle.model.specs.Laws.Reports.{code_named}
+use Rattle.exposure.specs.Bytes.{unrated_code}
+use Rattle.exposure.specs.Calls.{is_part, is_none_lem}
+use Rattle.exposure.proofs.unrated_code.Goals as goal
+use Rattle.exposure.proofs.unrated_code.Goals.{In-Named}
+
+-- the part that the code names
+named : (c : In-Named) → part_named largest c.args.code ≡ some c.in-Named.part
+named c = is_part _ c.part_of.ensures.answer c.in-Named.is
+
+pub rate_of-requires : goal.rate_of-requires
+rate_of-requires c = (code_named largest _ _ (named (goal.at.rate_of-requires c).In-Named)).0
+
+pub returns-in-Named : goal.returns-in-Named
+unfolding unrated_code
+returns-in-Named c = rw (named (goal.at.returns-in-Named c).In-Named, c.is_unrated.ensures, c.rate_of.ensures)
+
+pub returns-in-Refused : goal.returns-in-Refused
+unfolding unrated_code
+returns-in-Refused c = rw (is_none_lem _ c.part_of.ensures.answer c.in-Refused.is)
