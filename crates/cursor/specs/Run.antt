@@ -10,7 +10,7 @@ use borrow.Author.Tests.{lt-ltb, ne_eqb}
 use Rattle.model.specs.declared.Report.{Report}
 use Rattle.model.specs.declared.Ring.{Ring}
 use Rattle.model.specs.declared.ReportAnswer.{ReportAnswer}
-use Rattle.model.specs.declared.ReportAnswer.TheVariants.{Read, Refused}
+use Rattle.model.specs.declared.ReportAnswer.TheVariants.{Read}
 use Rattle.model.specs.declared.FileAnswer.TheVariants as file
 use Rattle.model.specs.declared.RunCursor.{RunCursor}
 use Rattle.model.specs.declared.RunPiece.{RunPiece}

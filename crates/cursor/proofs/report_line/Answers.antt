@@ -1,0 +1,65 @@
+-- `report_line`: the report is read, and the ring is told it. A served file that has a report has the length that its count says.
+use mathlib.Core.Path.{◌≡◌}
+use mathlib.Core.Logic.{◌≢◌}
+use Prim.Native.Nat.{ℕ, ◌+◌, ◌*◌}
+use native.Mathlib.Omega.{arith}
+use lib.ListN.{length}
+use Rattle.model.specs.declared.Report.{Report}
+use Rattle.model.specs.declared.ReportAnswer.TheVariants.{Read, Refused, Missing}
+use Rattle.model.specs.Laws.Tests.{never}
+use Rattle.calls.specs.Lines.{same_line}
+use Rattle.files.specs.Served.{file_served, own_whole, has_bytes}
+use Rattle.cursor.specs.Run.{report_next, report_sure}
+use Rattle.cursor.proofs.report_line.Goals as goal
+use Rattle.cursor.proofs.report_line.Goals.{After-report_count-m}
+
+not_refused : (r : Report) (k : ℕ) → Read r ≢ Refused k
+not_refused r k e = never cc
+
+not-missing : (r : Report) → Read r ≢ Missing
+not-missing r e = never cc
+
+-- its bytes, of which m are part codes and m are words
+whole : (c : After-report_count-m) → length c.args.file.now ≡ 3 + 2 * c.report_count-m.result
+whole c =
+    omega (arith, c.report_count-m.ensures, own_whole (file_served _ c.requires.0) (has_bytes c.args.file.now (omega (arith, c.requires.1))))
+
+pub overflow_add-m : goal.overflow_add-m
+overflow_add-m c = omega (arith, whole (goal.at.overflow_add-m c).After-report_count-m)
+
+pub slice_bounds-report_at-end : goal.slice_bounds-report_at-end
+slice_bounds-report_at-end c = omega (arith, whole (goal.at.slice_bounds-report_at-end c).After-report_count-m)
+
+pub overflow_add-m-2 : goal.overflow_add-m-2
+overflow_add-m-2 c = omega (arith, whole (goal.at.overflow_add-m-2 c).After-report_count-m)
+
+pub slice_bounds-report_at-count-2 : goal.slice_bounds-report_at-count-2
+slice_bounds-report_at-count-2 c = omega (arith, whole (goal.at.slice_bounds-report_at-count-2 c).After-report_count-m)
+
+pub slice_bounds-report_at-start-2 : goal.slice_bounds-report_at-start-2
+slice_bounds-report_at-start-2 c = omega (arith, whole (goal.at.slice_bounds-report_at-start-2 c).After-report_count-m)
+
+pub overflow_add-i : goal.overflow_add-i
+overflow_add-i c = omega (arith, c.requires.1, (file_served _ c.requires.0).few)
+
+pub step_line-requires : goal.step_line-requires
+step_line-requires c =
+    let t = report_next _ c.requires.0 c.requires.1 c.report_count-m.ensures c.requires.2 c.report_at.ensures.answer _ c.in-Read.is in
+    (t.0, t.1, omega (arith, c.requires.1, (file_served _ c.requires.0).few), c.requires.3)
+
+pub returns-in-Read : goal.returns-in-Read
+returns-in-Read c =
+    let t = report_next _ c.requires.0 c.requires.1 c.report_count-m.ensures c.requires.2 c.report_at.ensures.answer _ c.in-Read.is in
+    same_line c.step_line.ensures (omega arith) t.2
+
+pub returns-in-Refused : goal.returns-in-Refused
+returns-in-Refused c =
+    absurd
+    (report_sure _ c.requires.0 c.requires.1 c.report_count-m.ensures c.requires.2 c.report_at.ensures.answer c.in-Refused.is
+    (λ r e. not_refused r _ e))
+
+pub returns-in-Missing : goal.returns-in-Missing
+returns-in-Missing c =
+    absurd
+    (report_sure _ c.requires.0 c.requires.1 c.report_count-m.ensures c.requires.2 c.report_at.ensures.answer c.in-Missing.is
+    not-missing)
