@@ -6,7 +6,7 @@ import sys
 import tempfile
 import unittest
 
-from support import ToolCase, faultlines, path, read, run, sim
+from support import ToolCase, faultlines, make_vectors, path, program, read, ringsim, run, sim
 
 
 class Bench(ToolCase):
@@ -26,6 +26,41 @@ class Bench(ToolCase):
     def test_says_what_is_missing(self):
         for name in ("rustc", "valgrind", "python3"):
             self.check(self.lacking(name), 2, b"", "^bench/run: %s is not on the path\n$" % name)
+
+
+    def test_before_needs_a_checkout(self):
+        for words in (["--before"], ["--before", ""], ["--before", "/nowhere"], ["--before", path("bench")], ["--before", path("README.md")]):
+            self.check(run([path("bench", "run"), *words], cwd="/"), 2, b"", "^bench/run: --before needs the folder of a checkout\n$")
+
+
+    def test_seeds_are_numbers(self):
+        for words, wrong in ((["x"], "x"), (["5", "6a"], "6a"), (["--befor", "5"], "--befor"), (["-5"], "-5")):
+            self.check(run([path("bench", "run"), *words], cwd="/"), 2, b"", "^bench/run: a seed is a number: %s\n$" % wrong)
+
+
+class Cases(ToolCase):
+    """What bench/run measures the reckoning on."""
+
+    def case(self, n, orders):
+        answer = run([sys.executable, "-B", path("bench", "make_case.py"), str(n), str(orders)])
+        self.check(answer, 0)
+        self.assertEqual(len(answer.out), 141)
+        return answer.out
+
+    def test_orders(self):
+        for n in (3, 5, 8, 20):
+            fit = ({code: 0 for code in ringsim.ALL_CODES}, ringsim.no_locks())
+            started = sim.start(n, bytearray(122)).record.orders
+            everything = {code: ringsim.part_of_code(code).number <= n for code in ringsim.ALL_CODES}
+            for word, commands in (("off", {code: False for code in everything}), ("start", started), ("all", everything)):
+                self.assertEqual(self.case(n, word), make_vectors.plant_bytes(n, *fit, commands))
+
+    def test_drawn_orders_are_served(self):
+        for n, seed in ((3, 5), (8, 6), (20, 5), (20, 6)):
+            case = self.case(n, seed)
+            self.assertNotIn(b"refused", program("ringplant", case).out)
+            self.assertNotEqual(case, self.case(n, seed + 2))
+            self.assertEqual(case, self.case(n, seed))
 
 
 def sorted_seconds(text):
