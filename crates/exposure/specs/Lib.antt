@@ -1,4 +1,2 @@
--- The sheet of minimal cut sets as the reckoning reads it, byte by byte, and the laws of that.
+-- The sheet of minimal cut sets as the reckoning reads it, byte by byte. The laws of that are in proofs/.
 pub mod Bytes
-pub mod Sets
-pub mod Calls

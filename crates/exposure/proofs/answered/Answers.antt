@@ -2,7 +2,7 @@
 use mathlib.Core.Path.{◌≡◌, sym, ◌∙◌}
 use mathlib.Core.Bool.{false}
 use Rattle.model.specs.Exposure.{some_outside}
-use Rattle.exposure.specs.Calls.{outside_15, unrated_16, reckoned}
+use Rattle.exposure.proofs.Calls.{outside_15, unrated_16, reckoned}
 use Rattle.exposure.proofs.answered.Goals as goal
 use Rattle.exposure.proofs.answered.Goals.{Else-some_outside}
 

@@ -1,5 +1,5 @@
 -- `exposure::greater` meets its contract.
-use Rattle.exposure.specs.Sets.{gives_way, stays}
+use Rattle.exposure.proofs.Sets.{gives_way, stays}
 use Rattle.exposure.proofs.greater.Goals as goal
 
 pub returns-then-largest-product : goal.returns-then-largest-product

@@ -4,7 +4,7 @@ use Prim.Native.Nat.{ℕ}
 use native.Mathlib.Omega.{arith}
 use lib.ListN.{length, replicate, length-replicate}
 use Rattle.model.specs.CutText.{sheet_room}
-use Rattle.exposure.specs.Calls.{gives, refused_is, served_room, served_is}
+use Rattle.exposure.proofs.Calls.{gives, refused_is, served_room, served_is}
 use Rattle.exposure.proofs.of_bus.Goals as goal
 
 -- the list's buffer has room for any sheet

@@ -1,7 +1,7 @@
 -- `exposure::product_at` meets its contract.
 use native.Mathlib.Omega.{arith}
 use lib.Ieee.{of_bits}
-use Rattle.exposure.specs.Sets.{product_of_lem}
+use Rattle.exposure.proofs.Sets.{product_of_lem}
 use Rattle.exposure.proofs.product_at.Goals as goal
 
 pub returns : goal.returns

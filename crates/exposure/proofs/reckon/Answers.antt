@@ -3,7 +3,7 @@ use mathlib.Core.Path.{◌≡◌, ◌∙◌, ap}
 use native.Mathlib.Omega.{arith}
 use borrow.Author.Rules.{rules}
 use Rattle.exposure.specs.Bytes.{figures_of}
-use Rattle.exposure.specs.Sets.{figures_none, figures_more, figures_count}
+use Rattle.exposure.proofs.Sets.{figures_none, figures_more, figures_count}
 use Rattle.exposure.proofs.reckon.Goals as goal
 
 pub loop-i-init : goal.loop-i-init

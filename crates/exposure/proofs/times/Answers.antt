@@ -5,7 +5,7 @@ use Rattle.model.specs.Plant.{largest}
 use Rattle.model.specs.Reports.{part_named}
 use Rattle.model.specs.Laws.Reports.{code_named}
 use Rattle.exposure.specs.Bytes.{times_code}
-use Rattle.exposure.specs.Calls.{is_part, is_none_lem}
+use Rattle.exposure.proofs.Calls.{is_part, is_none_lem}
 use Rattle.exposure.proofs.times.Goals as goal
 use Rattle.exposure.proofs.times.Goals.{In-Named}
 

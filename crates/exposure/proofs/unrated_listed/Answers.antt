@@ -4,7 +4,7 @@ use Prim.Native.Nat.{◌*◌}
 use native.Mathlib.Omega.{arith}
 use borrow.Author.Rules.{rules}
 use Rattle.exposure.specs.Bytes.{unrated_bytes}
-use Rattle.exposure.specs.Sets.{unrated_none, unrated_more, unrated_some}
+use Rattle.exposure.proofs.Sets.{unrated_none, unrated_more, unrated_some}
 use Rattle.exposure.proofs.unrated_listed.Goals as goal
 
 pub loop-i-init : goal.loop-i-init

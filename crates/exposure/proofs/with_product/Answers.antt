@@ -1,7 +1,7 @@
 -- `exposure::with_product` meets its contract.
 use mathlib.Core.Path.{refl}
 use native.Mathlib.Omega.{arith}
-use Rattle.exposure.specs.Sets.{one_more}
+use Rattle.exposure.proofs.Sets.{one_more}
 use Rattle.exposure.proofs.with_product.Goals as goal
 
 pub returns : goal.returns

@@ -33,7 +33,7 @@ use Rattle.theory.proofs.Theorems.CutSets.{listed}
 use Rattle.theory.proofs.Theorems.Exposure.{answer_numbers}
 use Rattle.cutsets.specs.Sizes.{cut_sets_few}
 use Rattle.exposure.specs.Bytes.{figures_of, unrated_bytes, refused_exposure, sheet_answer}
-use Rattle.exposure.specs.Sets.{figures_are, unrated_are}
+use Rattle.exposure.proofs.Sets.{figures_are, unrated_are}
 
 -- ---- the answer to a code
 
