@@ -3,6 +3,7 @@ pub mod Settled
 pub mod Closing
 pub mod Outward
 pub mod CutSets
+pub mod Figures
 pub mod Exposure
 pub mod Recipe
 pub mod Numbers
