@@ -8,10 +8,10 @@ use borrow.Author.Rules.{rules}
 use Rattle.model.specs.Plant.{bus_breaker}
 use Rattle.model.specs.Reports.{health_of}
 use Rattle.sources.specs.Sources.{may_feed}
-use Rattle.walks.specs.Walk.{breaker_beside, bus_beside, breaker_lt, bus_lt}
+use Rattle.walks.specs.Walk.{bus_beside, breaker_lt, bus_lt}
 use Rattle.outages.specs.Sides.{walked_start, walked_open, walked_end, walked_met, walked_on}
 use Rattle.outages.proofs.steps_to_generator.Goals as goal
-use Rattle.outages.proofs.steps_to_generator.Goals.{After-bus_beside-k, After-may_feed, Else-health-i-eq-STUCK_OPEN}
+use Rattle.outages.proofs.steps_to_generator.Goals.{After-bus_beside-k, After-may_feed}
 
 -- the bus behind it
 behind-lt : (c : After-bus_beside-k) → c.bus_beside-k.result < c.args.n
@@ -20,14 +20,6 @@ behind-lt c =
 
 in_array : (c : After-bus_beside-k) → c.bus_beside-k.result < 20
 in_array c = omega (arith, behind-lt c, c.requires.1)
-
--- the breaker is not stuck open
-clear : (c : Else-health-i-eq-STUCK_OPEN) →
-    (health_of c.args.health).health (bus_breaker (breaker_beside c.args.n c.args.rising c.loop-steps.k)) ≢ 2
-unfolding health_of
-clear c =
-    let e : (health_of c.args.health).health (bus_breaker c.breaker_beside-i.result) ≢ 2 = λ z. omega (arith, c.if-health-i-eq-STUCK_OPEN.false) in
-    rw c.breaker_beside-i.ensures at e
 
 -- whether the generator of the bus reached may feed
 judged : (c : After-may_feed) (t : Bool) → c.may_feed.result ≡ t →
@@ -59,17 +51,22 @@ pub bounds-health-k-in-loop-steps-2 : goal.bounds-health-k-in-loop-steps-2
 bounds-health-k-in-loop-steps-2 c = in_array (goal.at.bounds-health-k-in-loop-steps-2 c).After-bus_beside-k
 
 pub returns-then-may_feed : goal.returns-then-may_feed
+unfolding health_of
 returns-then-may_feed c =
-    walked_met _ _ _ _ c.requires.0 _ _ c.loop-steps.invariant.2 (omega (arith, c.loop-steps-test.true)) (clear (goal.at.returns-then-may_feed c).Else-health-i-eq-STUCK_OPEN)
+    let e : (health_of c.args.health).health (bus_breaker c.breaker_beside-i.result) ≢ 2 = λ z. omega (arith, c.if-health-i-eq-STUCK_OPEN.false) in
+    walked_met _ _ _ _ c.requires.0 _ _ c.loop-steps.invariant.2 (omega (arith, c.loop-steps-test.true)) (rw c.breaker_beside-i.ensures at e)
     (judged (goal.at.returns-then-may_feed c).After-may_feed true c.if-may_feed.true)
 
 pub loop-steps-preserved : goal.loop-steps-preserved
+unfolding health_of
 loop-steps-preserved c =
+    let clear : (health_of c.args.health).health (bus_breaker c.breaker_beside-i.result) ≢ 2 = λ z. omega (arith, c.if-health-i-eq-STUCK_OPEN.false) in
     let room : c.loop-steps.steps + 1 < c.args.n = omega (arith, c.loop-steps-test.true) in (
       behind-lt (goal.at.loop-steps-preserved c).After-bus_beside-k,
       room,
       rw c.bus_beside-k.ensures
-          (walked_on _ _ _ _ c.requires.0 _ _ c.loop-steps.invariant.2 room (clear (goal.at.loop-steps-preserved c).Else-health-i-eq-STUCK_OPEN) (judged (goal.at.loop-steps-preserved c).After-may_feed false c.if-may_feed.false)),
+          (walked_on _ _ _ _ c.requires.0 _ _ c.loop-steps.invariant.2 room (rw c.breaker_beside-i.ensures at clear)
+          (judged (goal.at.loop-steps-preserved c).After-may_feed false c.if-may_feed.false)),
     )
 
 pub returns : goal.returns
