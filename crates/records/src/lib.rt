@@ -29,6 +29,7 @@ fn bad_load(n: u8, choices: [BusChoice; 20], load: Load) -> bool
 // "In a record, number 9 is met when n is outside 3 to 20, a health is not one of its part's kind, a part above n is not fit or not
 // ordered off or open, or the standing orders differ from those the health calls for."; "A part above n must be unlocked, or the record meets
 // refusal 9; the standing orders there are those that health and locks call for." (document 02, Note 7); then what it is also met by.
+#[tactic(auto, using(model::specs::Laws::Refusals::size_bounds))]
 pub fn bad_record(state: RingState) -> bool
     ensures { result ≡ bad_record state }
 {

@@ -1,23 +1,10 @@
 -- `records::bad_load` meets its contract: the four conditions of refusal 9 on a load, in turn.
-use mathlib.Core.Path.{◌≡◌}
-use mathlib.Core.Bool.{false}
-use Prim.Native.Nat.{◌≤◌}
 use native.Mathlib.Omega.{arith}
-use Rattle.model.specs.Lists.{any_of}
-use Rattle.model.specs.Bookings.{live_bookings, live_twice, booking_outside}
 use Rattle.model.specs.Laws.Tests.{facts}
 use Rattle.model.specs.Laws.Bookings.{all_bookable}
 use Rattle.components.specs.Tests.{is_false, outcomes}
 use Rattle.records.specs.Records.{load_bad, figures_decide}
 use Rattle.records.proofs.bad_load.Goals as goal
-use Rattle.records.proofs.bad_load.Goals.{Else-any_outside}
-
--- what the passed checks say
-passed : (c : Else-any_outside)
-    → ((c.args.load.live ≤ 64)
-    × (live_twice (live_bookings c.args.load) ≡ false)
-    × (any_of (booking_outside c.args.n) (live_bookings c.args.load) ≡ false))
-passed c = (omega (arith, facts), is_false _ (λ e. search outcomes), is_false _ (λ e. search outcomes))
 
 pub returns-then-load-gt64 : goal.returns-then-load-gt64
 returns-then-load-gt64 c = load_bad _ _ c.args.load (λ a b d. omega (arith, facts))
@@ -36,13 +23,13 @@ returns-then-any_outside c = load_bad _ _ c.args.load (λ a b d. search outcomes
 
 -- nothing is added up before the watts are looked at
 pub other_figures-requires-clause-live : goal.other_figures-requires-clause-live
-other_figures-requires-clause-live c = (passed (goal.at.other_figures-requires-clause-live c).Else-any_outside).0
+other_figures-requires-clause-live c = omega (arith, facts)
 
 pub other_figures-requires-clause-ring : goal.other_figures-requires-clause-ring
 other_figures-requires-clause-ring c =
-    let p = passed (goal.at.other_figures-requires-clause-ring c).Else-any_outside in record { n = c.args.n; small = c.requires.0; inside = c.requires.1; bookable = all_bookable _ _ p.2 }
+    record { n = c.args.n; small = c.requires.0; inside = c.requires.1; bookable = all_bookable _ _ (is_false _ (λ e. search outcomes)) }
 
 pub returns : goal.returns
 returns c =
-    let p = passed (goal.at.returns c).Else-any_outside in
-    figures_decide _ _ c.args.load p.0 p.1 p.2 _ (search outcomes)
+    figures_decide _ _ c.args.load (omega (arith, facts)) (is_false _ (λ e. search outcomes)) (is_false _ (λ e. search outcomes)) _
+    (search outcomes)

@@ -4,13 +4,13 @@ use mathlib.Core.Bool.{false}
 use Rattle.model.specs.Plant.{largest, parts}
 use Rattle.model.specs.Choosing.{commands}
 use Rattle.model.specs.Reports.{health_of, commands_of, command_places, called_for}
-use Rattle.model.specs.Refusals.{size_outside, health_outside, active_above, locked_above, unplanned}
+use Rattle.model.specs.Refusals.{size_outside, health_outside, active_above, unplanned}
 use Rattle.model.specs.Laws.Refusals.{size_bounds}
 use Rattle.theory.specs.Proofs.Choosing.{choices_inside}
 use Rattle.components.specs.Tests.{is_true, is_false, outcomes}
 use Rattle.records.specs.Records.{differ_planned, bad_size, bad_health, bad_above, bad_lock, bad_commands, load_decides}
 use Rattle.records.proofs.bad_record.Goals as goal
-use Rattle.records.proofs.bad_record.Goals.{After-differ, After-plan-planned, Else-active_above, Else-health_outside, Else-locked_above, Else-size_outside}
+use Rattle.records.proofs.bad_record.Goals.{After-differ, After-plan-planned, Else-active_above, Else-health_outside, Else-size_outside}
 
 -- what a passed check says
 inside : (c : Else-size_outside) → size_outside c.args.state.ring.n ≡ false
@@ -23,10 +23,6 @@ of_kind c = sym c.health_outside.ensures ∙ c.if-health_outside.false
 quiet : (c : Else-active_above)
     → (active_above c.args.state.ring.n (health_of c.args.state.ring.health) (commands_of c.args.state.ring.commands) ≡ false)
 quiet c = sym c.active_above.ensures ∙ c.if-active_above.false
-
-unlocked : (c : Else-locked_above)
-    → (locked_above c.args.state.ring.n (health_of c.args.state.ring.health) ≡ false)
-unlocked c = is_false _ (λ e. search outcomes)
 
 -- the commands and the choices planned are those that the health and the locks call for
 planned-commands : (c : After-differ)
@@ -49,15 +45,9 @@ returns-then-size_outside c = bad_size _ (sym c.size_outside.ensures ∙ c.if-si
 pub returns-then-health_outside : goal.returns-then-health_outside
 returns-then-health_outside c = bad_health _ (inside (goal.at.returns-then-health_outside c).Else-size_outside) (sym c.health_outside.ensures ∙ c.if-health_outside.true)
 
-pub active_above-requires : goal.active_above-requires
-active_above-requires c = (size_bounds _ (inside (goal.at.active_above-requires c).Else-size_outside)).1
-
 pub returns-then-active_above : goal.returns-then-active_above
 returns-then-active_above c =
     bad_above _ (inside (goal.at.returns-then-active_above c).Else-size_outside) (of_kind (goal.at.returns-then-active_above c).Else-health_outside) (sym c.active_above.ensures ∙ c.if-active_above.true)
-
-pub locked_above-requires : goal.locked_above-requires
-locked_above-requires c = (size_bounds _ (inside (goal.at.locked_above-requires c).Else-size_outside)).1
 
 pub returns-then-locked_above : goal.returns-then-locked_above
 returns-then-locked_above c =
@@ -68,7 +58,7 @@ plan-planned-requires c = size_bounds _ (inside (goal.at.plan-planned-requires c
 
 pub returns-then-differ : goal.returns-then-differ
 returns-then-differ c =
-    bad_commands _ (inside (goal.at.returns-then-differ c).Else-size_outside) (of_kind (goal.at.returns-then-differ c).Else-health_outside) (quiet (goal.at.returns-then-differ c).Else-active_above) (unlocked (goal.at.returns-then-differ c).Else-locked_above) (sym (compared (goal.at.returns-then-differ c).After-differ) ∙ c.if-differ.true)
+    bad_commands _ (inside (goal.at.returns-then-differ c).Else-size_outside) (of_kind (goal.at.returns-then-differ c).Else-health_outside) (quiet (goal.at.returns-then-differ c).Else-active_above) (is_false _ (λ e. search outcomes)) (sym (compared (goal.at.returns-then-differ c).After-differ) ∙ c.if-differ.true)
 
 -- the choices are those of the ring
 pub bad_load-requires : goal.bad_load-requires
@@ -78,5 +68,5 @@ bad_load-requires c =
 
 pub returns : goal.returns
 returns c =
-    load_decides _ (inside (goal.at.returns c).Else-size_outside) (of_kind (goal.at.returns c).Else-health_outside) (quiet (goal.at.returns c).Else-active_above) (unlocked (goal.at.returns c).Else-locked_above) (sym (compared (goal.at.returns c).After-differ) ∙ c.if-differ.false)
+    load_decides _ (inside (goal.at.returns c).Else-size_outside) (of_kind (goal.at.returns c).Else-health_outside) (quiet (goal.at.returns c).Else-active_above) (is_false _ (λ e. search outcomes)) (sym (compared (goal.at.returns c).After-differ) ∙ c.if-differ.false)
     c.plan-planned.result.choices (planned-choices (goal.at.returns c).After-plan-planned) _ (search outcomes)
