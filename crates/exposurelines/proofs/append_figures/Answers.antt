@@ -38,7 +38,7 @@ shape_of-out c = simp length-set (sized (goal.at.shape_of-out c).After-append_la
 
 pub returns-clause-text : goal.returns-clause-text
 unfolding ascii
-returns-clause-text c = appended_one _ (figures_parts _ _ (omega arith)) (omega arith)
+returns-clause-text c = appended_one _ (figures_parts c.args.figures c.args.figures.count (omega arith)) (omega arith)
     (appended_more (appended_more c.append_bits-largest.ensures c.append_bits-count.ensures) c.append_large-end.ensures)
 
 pub returns-clause-within : goal.returns-clause-within
