@@ -2,7 +2,7 @@
 // is proved in `latest`, `listing` and `heads`: here is a read, a loop over the buses, and a write for each.
 #![tactic(auto)]
 
-ghost use Rattle.std.specs.Prelude.{◌≡◌, ◌≤◌, length};
+ghost use Rattle.std.specs.Prelude.{◌≤◌, length};
 ghost use Rattle.model.specs.CutText.{text_room};
 
 use model::{Outcome, Ring};
@@ -42,13 +42,6 @@ fn print_file(rt: &impl Print, file: &[u8], out: &mut [u8]) -> bool
     }
 }
 
-// A cleared buffer of as many bytes as its place wants. Its length is known without counting half a million of them.
-fn cleared<const N: usize>() -> [u8; N]
-    ensures { length result ≡ N }
-{
-    [0; N]
-}
-
 fn main(rt: HostRuntime) {
     let mut file = [0u8; 8196];
     let input = reading::read_file(&mut rt.stdin(), &mut file);
@@ -57,7 +50,7 @@ fn main(rt: HostRuntime) {
         return;
     }
     let size = input.size;
-    let mut out: [u8; 540775] = cleared();
+    let mut out = [0u8; 540775];
     if !print_file(&rt, &file[..size], &mut out) {
         let _ = rt.eprintln("ringcuts: standard output cannot be written");
     }
