@@ -168,25 +168,25 @@ class Papers(unittest.TestCase):
 
 class Table(unittest.TestCase):
     """The closing phases that a theorem computes (crates/theory, Statements/Outward): the simulation's."""
-    WORDS = {"generatorOff": ("G", ringsim.STUCK_OFF), "generatorBreakerOpen": ("GB", ringsim.STUCK_OPEN),
-             "busBreakerOpen": ("BB", ringsim.STUCK_OPEN), "busBreakerClosed": ("BB", ringsim.STUCK_CLOSED)}
+    WORDS = {"generator_off": ("G", ringsim.STUCK_OFF), "generator_breaker_open": ("GB", ringsim.STUCK_OPEN),
+             "bus_breaker_open": ("BB", ringsim.STUCK_OPEN), "bus_breaker_closed": ("BB", ringsim.STUCK_CLOSED)}
     KINDS = {"Generator": "G", "GeneratorBreaker": "GB", "BusBreaker": "BB"}
-    ROW = re.compile(r"phase (\d+) (allOff|\(planFor \d+ (?:\[\]|\([^()]*\))\)) (\[\]|\([^()]*\)) \(([^()]*)\)")
+    ROW = re.compile(r"phase (\d+) (all_off|\(plan_for \d+ (?:\[\]|\([^()]*\))\)) (\[\]|\([^()]*\)) \(([^()]*)\)")
 
     def rows(self):
         """Size, the faults for which commands stand, or None where none stands, the faults known, and the parts."""
         text = read("crates", "theory", "specs", "Statements", "Outward.antt").decode()
-        text = text[text.index("\nclosingPhases =\n"):text.index("-- what closes, by the definitions")]
+        text = text[text.index("\nclosing_phases =\n"):text.index("-- what closes, by the definitions")]
         text = " ".join(line.strip() for line in text.splitlines() if not line.strip().startswith("--"))
         self.assertEqual(len(self.ROW.findall(text)), text.count("phase "))
         for n, standing, faults, parts in self.ROW.findall(text):
-            old = None if standing == "allOff" else self.health(standing.split(" ", 2)[2])
+            old = None if standing == "all_off" else self.health(standing.split(" ", 2)[2])
             yield int(n), old, self.health(faults), [CODES[self.KINDS[kind] + k] for kind, k in re.findall(r"(\w+) (\d+)", parts)]
 
     def health(self, faults):
         """Each part's health after the faults named, all others fit."""
         health = {code: ringsim.FIT for code in ringsim.ALL_CODES}
-        for numbers in re.findall(r"othersOff (\d+) (\d+) (\d+) (\d+) (\d+)", faults):
+        for numbers in re.findall(r"others_off (\d+) (\d+) (\d+) (\d+) (\d+)", faults):
             health.update({CODES["G" + k]: ringsim.STUCK_OFF for k in numbers[:4]})
             health[CODES["BB" + numbers[4]]] = ringsim.STUCK_OPEN
         for name, k in re.findall(r"(\w+) (\d+)(?= ∷)", faults):

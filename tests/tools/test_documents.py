@@ -7,7 +7,7 @@ import unittest
 
 from support import faultlines, path, read, run, tool
 
-KIT = {"io", "libc", "os", "check", "bytes"}
+KIT = {"check", "bytes"}
 
 
 def text_of(*names):
@@ -175,7 +175,7 @@ class Layers(unittest.TestCase):
             for file in files:
                 if file.endswith((".rt", ".antt")) and "must-fail" not in folder:
                     text = re.sub(r"(//|--).*", "", text_of(os.path.join(folder, file)))
-                    found |= set(re.findall(r"Rattle·([a-z_0-9]+)", text))
+                    found |= set(re.findall(r"Rattle\.([a-z_0-9]+)", text))
                     found |= set(re.findall(r"\b([a-z_0-9]+)::", text)) if file.endswith(".rt") else set()
         return (found & (names | KIT)) - {crate}
 

@@ -7,7 +7,7 @@ import unittest
 from support import path, read
 
 STATEMENT = read("crates", "theory", "specs", "Statements", "Numbers.antt").decode()
-THEOREMS = read("crates", "theory", "specs", "Theorems", "Numbers.antt").decode()
+THEOREMS = read("crates", "theory", "proofs", "Theorems", "Numbers.antt").decode()
 NAME = re.compile(r"\w+::\w+")
 HANDED = {"rings::refused", "reckoning::with_load"}     # these answer the number that they are handed
 
@@ -34,14 +34,14 @@ def calls():
     """The public calls, with the type of their answers and what their contracts promise of these: the definitions named first."""
     for crate, text in sources():
         for name, _, answer, contract in re.findall(r"^pub fn (\w+)\(([^)]*)\)\s*->\s*([\w\[\]; ]+?)\n(.*?)^\{", text, re.S | re.M):
-            promised = re.search(r"ensures(?: answer)? \{(.*?)⌝ \}", contract, re.S)
-            yield "%s::%s" % (crate, name), answer.strip(), re.findall(r"\b[a-z]+[A-Z]\w*", promised.group(1))[:2] if promised else []
+            promised = re.search(r"ensures(?: answer)? \{(.*?) \}$", contract, re.S | re.M)
+            yield "%s::%s" % (crate, name), answer.strip(), re.findall(r"\b[a-z]+_\w+", promised.group(1))[:2] if promised else []
 
 
 def groups():
     """The fields of the statement, each with the calls that the comment above it names."""
     for comment, fields in re.findall(r"^  -- (.*)\n((?:  pub .*\n(?:      .*\n)*)+)", STATEMENT, re.M):
-        yield NAME.findall(comment), dict(re.findall(r"^  pub ([\w-]+) : (.*(?:\n      .*)*)", fields, re.M))
+        yield NAME.findall(comment), dict(re.findall(r"^  pub (\w+) : (.*(?:\n      .*)*)", fields, re.M))
 
 
 class Named(unittest.TestCase):
@@ -51,14 +51,15 @@ class Named(unittest.TestCase):
                               "LatestAnswer", "ExposureAnswer"}, answer_types())
 
     def test_every_call_that_finds_a_refusal_has_its_field(self):
-        """It is named above a field of its name, of an inner call with `inner-` before it, which speaks of the definition that its contract
-        equates the answer with."""
+        """It is named above a field of its name, of an inner call with `inner_` before it, and with `_lem` behind it where a definition has
+        the name; the field speaks of the definition that the call's contract equates the answer with."""
         types, seen = answer_types(), []
         for call, answer, promised in calls():
             if answer not in types or call in HANDED:
                 continue
-            own = call.split("::")[1].replace("_", "-")
-            fields = [text for names, fields in groups() if call in names for name, text in fields.items() if name in (own, "inner-" + own)]
+            own = call.split("::")[1]
+            fields = [text for names, fields in groups() if call in names for name, text in fields.items()
+                      if name.removesuffix("_lem") in (own, "inner_" + own)]
             self.assertEqual(len(fields), 1, call)
             self.assertTrue(promised, call)
             for definition in promised:
@@ -70,13 +71,13 @@ class Named(unittest.TestCase):
         self.assertEqual(set(NAME.findall(STATEMENT)) - {call for call, _, _ in calls()}, set())
 
     def test_every_field_is_tested(self):
-        """`never-seven` has every field, and for every field another number is shown to be given."""
-        self.assertIn("\npub never-seven : NeverGiven 7\n", THEOREMS)
-        self.assertEqual(set(re.findall(r"λ never\. never \.([\w-]+)", THEOREMS)), {name for _, fields in groups() for name in fields})
+        """`never_seven` has every field, and for every field another number is shown to be given."""
+        self.assertIn("\npub never_seven : NeverGiven 7\n", THEOREMS)
+        self.assertEqual(set(re.findall(r"λ never\. never\.(\w+)", THEOREMS)), {name for _, fields in groups() for name in fields})
 
     def test_every_number_of_a_condition_is_given(self):
-        """`others-given` has each number that a condition of the definitions has, once: the paper's table but 7."""
-        claimed = re.search(r"^pub others-given : (.*?)^unfolding", THEOREMS, re.S | re.M).group(1)
+        """`others_given` has each number that a condition of the definitions has, once: the paper's table but 7."""
+        claimed = re.search(r"^pub others_given : (.*?)^unfolding", THEOREMS, re.S | re.M).group(1)
         numbers = [int(number) for number in re.findall(r"NeverGiven (\d+)", claimed)]
         definitions = "".join(read("crates", "model", "specs", name).decode() for name in os.listdir(path("crates", "model", "specs"))
                               if name.endswith(".antt"))
