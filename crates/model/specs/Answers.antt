@@ -1,5 +1,6 @@
 -- Document 01, "Fault file and reports" and "What is sent back unserved": the whole answer of each call, served or refused.
-use Rattle.std.specs.Prelude.{◌&&◌, cond, List, [], ◌∷◌, map, ℕ, suc, ltb, eqb, length, get_or, take}
+use Rattle.std.specs.Prelude.{◌&&◌, cond, List, [], ◌∷◌, map, ℕ, suc, ltb, eqb, length, get_or, take, Result, Ok, Err}
+use Rattle.std.specs.Prelude as std
 use Rattle.std.proofs.Math.Option.{Option, none, some}
 use Rattle.model.specs.declared.Part.{Part}
 use Rattle.model.specs.declared.Word.{Word}
@@ -8,20 +9,14 @@ use Rattle.model.specs.declared.Health.{Health}
 use Rattle.model.specs.declared.Commands.{Commands}
 use Rattle.model.specs.declared.Ring.{Ring}
 use Rattle.model.specs.declared.Choice.TheVariants as choice
-use Rattle.model.specs.declared.Outcome.TheVariants as outcome
+use Rattle.model.specs.declared.Refusal.{Refusal}
+use Rattle.model.specs.declared.Refusal.TheVariants.{PartOutside, WordOutside}
+use Rattle.model.specs.declared.FileHead.{FileHead}
 use Rattle.model.specs.declared.BusChoice.{BusChoice}
 use Rattle.model.specs.declared.Feed.TheVariants as feed
 use Rattle.model.specs.declared.RingAnswer.{RingAnswer}
 use Rattle.model.specs.declared.FeedsAnswer.{FeedsAnswer}
-use Rattle.model.specs.declared.PartAnswer.{PartAnswer}
-use Rattle.model.specs.declared.PartAnswer.TheVariants as part
-use Rattle.model.specs.declared.WordAnswer.{WordAnswer}
-use Rattle.model.specs.declared.WordAnswer.TheVariants as word
-use Rattle.model.specs.declared.ReportAnswer.{ReportAnswer}
-use Rattle.model.specs.declared.ReportAnswer.TheVariants as report
-use Rattle.model.specs.declared.FileAnswer.{FileAnswer}
-use Rattle.model.specs.declared.FileAnswer.TheVariants as file
-use Rattle.model.specs.Values.{outcome_of, numbered}
+use Rattle.model.specs.Values.{refusal_of, outcome_of, numbered}
 use Rattle.model.specs.Plant.{feeders, bus_feed}
 use Rattle.model.specs.Choosing.{path_values, plan_values, choices}
 use Rattle.model.specs.Sheet.{written}
@@ -40,27 +35,27 @@ use Rattle.model.specs.Refusals.{
 }
 
 -- the part that a code names in a ring of n, or refusal 5
-unfoldable pub part_answer : Option Part → PartAnswer
-part_answer none = part.Refused 5
-part_answer (some p) = part.Named p
+unfoldable pub part_answer : Option Part → Result Part Refusal
+part_answer none = Err PartOutside
+part_answer (some p) = Ok p
 
 -- .. by its code
 unfoldable pub code_values : ℕ → ℕ → ℕ × List ℕ
 code_values n c = numbered (code_refusal n c) (c ∷ [])
 
 -- the word that a byte names, or refusal 6
-unfoldable pub word_answer : Option Word → WordAnswer
-word_answer none = word.Refused 6
-word_answer (some w) = word.Named w
+unfoldable pub word_answer : Option Word → Result Word Refusal
+word_answer none = Err WordOutside
+word_answer (some w) = Ok w
 
 -- .. by its number
 unfoldable pub byte_values : ℕ → ℕ × List ℕ
 byte_values v = numbered (byte_refusal v) (v ∷ [])
 
 -- the i-th report, from 0, of the part codes and words of a file; none past the end of either
-unfoldable pub report_at : ℕ → List ℕ → List ℕ → ℕ → ReportAnswer
+unfoldable pub report_at : ℕ → List ℕ → List ℕ → ℕ → Result (std.Option Report) Refusal
 report_at n codes words i =
-    cond (ltb i (length codes) && ltb i (length words)) (report_answer n (get_or codes i 0) (get_or words i 0)) report.Missing
+    cond (ltb i (length codes) && ltb i (length words)) (report_answer n (get_or codes i 0) (get_or words i 0)) (Ok std.None)
 
 -- .. by its code and its word; neither number nor values where there is no report
 unfoldable pub report_values_at : ℕ → List ℕ → List ℕ → ℕ → ℕ × List ℕ
@@ -70,8 +65,8 @@ report_values_at n codes words i =
     cond (ltb i (length codes) && ltb i (length words)) (numbered (report_refusal n c v) (c ∷ v ∷ [])) (0, [])
 
 -- a whole file's n and m, or its first refusal
-unfoldable pub file_answer : List ℕ → FileAnswer
-file_answer f = cond (eqb (file_refusal f) 0) (file.Served (file_size f) (file_count f)) (file.Refused (file_refusal f))
+unfoldable pub file_answer : List ℕ → Result FileHead Refusal
+file_answer f = cond (eqb (file_refusal f) 0) (Ok (record { n = file_size f; m = file_count f })) (Err (refusal_of (file_refusal f)))
 
 -- .. by their numbers
 unfoldable pub whole_values : List ℕ → ℕ × List ℕ
@@ -106,7 +101,7 @@ all_dark = places (λ b. record { choice = choice.Dark })
 
 -- "Each has its number as the answer, the record as handed in .."
 unfoldable pub refused_answer : ℕ → Ring → RingAnswer
-refused_answer k ring = record { outcome = outcome.Refused k; ring = ring; choices = all_dark }
+refused_answer k ring = record { outcome = Err (refusal_of k); ring = ring; choices = all_dark }
 
 -- ".. and the buffer untouched."
 unfoldable pub refused_reply : ℕ → Ring → List ℕ → Reply
@@ -114,7 +109,7 @@ refused_reply k ring buffer = record { answer = refused_answer k ring; buffer = 
 
 -- "gives the new record, each bus's choice ..": a ring that was told its reports
 unfoldable pub served_answer : Ring → RingAnswer
-served_answer ring = record { outcome = outcome.Served; ring = with_plan ring; choices = choices ring.n (health_of ring.health) }
+served_answer ring = record { outcome = Ok tt; ring = with_plan ring; choices = choices ring.n (health_of ring.health) }
 
 -- ".. and the sheet"
 unfoldable pub served_reply : Ring → List ℕ → Reply

@@ -1,6 +1,6 @@
 -- Document 02, Note 1, "Which further faults darken a studio": minimal cut sets. A set is a list of parts in rising code.
 -- Buses are indices from 0; the call's bus is a number, from 1.
-use Rattle.std.specs.Prelude.{Bool, not, ◌&&◌, cond, ℕ, zero, suc, ◌/◌, ◌%◌, ltb, eqb, length, take}
+use Rattle.std.specs.Prelude.{Bool, not, ◌&&◌, cond, ℕ, zero, suc, ◌/◌, ◌%◌, ltb, eqb, length, take, Ok, Err}
 use mathlib.Core.List.{List, [], ◌∷◌, ◌++◌, map, flat_map}
 use Rattle.model.specs.declared.Part.{Part}
 use Rattle.model.specs.declared.Part.TheVariants.{Generator, GeneratorBreaker, BusBreaker}
@@ -9,10 +9,9 @@ use Rattle.model.specs.declared.Word.TheVariants.{StuckOff, StuckOpen}
 use Rattle.model.specs.declared.Report.{Report}
 use Rattle.model.specs.declared.Ring.{Ring}
 use Rattle.model.specs.declared.RingState.{RingState}
-use Rattle.model.specs.declared.Outcome.TheVariants.{Served, Refused}
 use Rattle.model.specs.declared.CutSetsAnswer.{CutSetsAnswer}
 use Rattle.model.specs.Lists.{below, keep, any_of, is_none}
-use Rattle.model.specs.Values.{index, part_code}
+use Rattle.model.specs.Values.{index, part_code, refusal_of}
 use Rattle.model.specs.Plant.{PartHealth, parts, fit_generator, stuck_open}
 use Rattle.model.specs.Choosing.{plan}
 use Rattle.model.specs.Sheet.{written}
@@ -105,11 +104,11 @@ pub record CutSetsReply : Type 0 where
 
 -- "a refused call that they add is answered as a refused step, .. any figure beside the record 0": the buffer untouched, the count 0
 unfoldable pub refused_cut_sets : ℕ → List ℕ → CutSetsReply
-refused_cut_sets k buffer = record { answer = record { outcome = Refused k; count = 0 }; buffer = buffer }
+refused_cut_sets k buffer = record { answer = record { outcome = Err (refusal_of k); count = 0 }; buffer = buffer }
 
 -- the sheet in the front of the buffer, and how many sets it has
 unfoldable pub served_cut_sets : List (List Part) → List ℕ → CutSetsReply
-served_cut_sets sets buffer = record { answer = record { outcome = Served; count = length sets }; buffer = written (cut_sheet sets) buffer }
+served_cut_sets sets buffer = record { answer = record { outcome = Ok tt; count = length sets }; buffer = written (cut_sheet sets) buffer }
 
 -- the whole answer of the call, served or refused
 unfoldable pub cut_sets_reply : RingState → ℕ → List ℕ → CutSetsReply

@@ -1,13 +1,12 @@
 -- The text of the chance of a dark hour (document 02, Note 8) of every bus after a fault file's last report, as a list of bytes. "Bits must equal
 -- this recipe's", so a float is written by its bits. A line feed ends every line.
-use Rattle.std.specs.Prelude.{cond, List, [], ◌∷◌, ◌++◌, map, ℕ, zero, suc, ◌+◌, ◌-◌, ◌*◌, ◌/◌, ◌%◌, ltb, eqb, Float}
+use Rattle.std.specs.Prelude.{cond, List, [], ◌∷◌, ◌++◌, map, ℕ, zero, suc, ◌+◌, ◌-◌, ◌*◌, ◌/◌, ◌%◌, ltb, eqb, Float, Ok, Err}
+use Rattle.model.specs.Values.{Outcome, refusal_number}
 use Prim.Native.Char.{code}
 use Rattle.std.specs.Float.{binary64}
 use Rattle.std.specs.Float.Ieee.{to_bits}
 use Rattle.model.specs.declared.Ring.{Ring}
 use Rattle.model.specs.declared.Rates.{Rates}
-use Rattle.model.specs.declared.Outcome.{Outcome}
-use Rattle.model.specs.declared.Outcome.TheVariants.{Served, Refused}
 use Rattle.model.specs.declared.Exposure.{Exposure}
 use Rattle.model.specs.declared.ExposureAnswer.{ExposureAnswer}
 use Rattle.model.specs.Lists.{below}
@@ -38,8 +37,8 @@ exposure_text e = bits_text e.sum ++ (ascii " " ++ (bits_text e.largest ++ (asci
 
 -- what is answered, the figures or the refusal
 unfoldable pub answered_text : Outcome → Exposure → List ℕ
-answered_text Served e = exposure_text e
-answered_text (Refused k) e = refused_text k
+answered_text (Ok _) e = exposure_text e
+answered_text (Err r) e = refused_text (refusal_number r)
 
 -- a bus's line, as `B3 3b95edccb7e5db5a 3b872b15f44c6e30 10` or `B3 refused 16`
 unfoldable pub exposure_line : ℕ → ExposureAnswer → List ℕ

@@ -8,6 +8,7 @@ pub mod Sheet
 pub mod Reports
 pub mod Refusals
 pub mod Appended
+pub mod Numbers
 pub mod Answers
 pub mod Calls
 pub mod CutSets

@@ -1,5 +1,6 @@
 -- Document 01, "What is sent back unserved": for each kind of call its conditions, in the order in which they are checked.
-use Rattle.std.specs.Prelude.{Bool, not, ◌&&◌, ◌||◌, cond, List, [], ◌∷◌, ◌++◌, ℕ, suc, ◌+◌, ◌*◌, min, ltb, eqb, length}
+use Rattle.std.specs.Prelude.{Bool, not, ◌&&◌, ◌||◌, cond, List, [], ◌∷◌, ◌++◌, ℕ, suc, ◌+◌, ◌*◌, min, ltb, eqb, length, Result, Ok, Err}
+use Rattle.std.specs.Prelude as std
 use Rattle.std.specs.Bool.{beq}
 use Rattle.std.proofs.Math.Option.{Option, none, some}
 use Rattle.model.specs.declared.Part.{Part}
@@ -7,10 +8,10 @@ use Rattle.model.specs.declared.Part.TheVariants.{Generator, GeneratorBreaker, B
 use Rattle.model.specs.declared.Word.{Word}
 use Rattle.model.specs.declared.Report.{Report}
 use Rattle.model.specs.declared.Ring.{Ring}
-use Rattle.model.specs.declared.ReportAnswer.{ReportAnswer}
-use Rattle.model.specs.declared.ReportAnswer.TheVariants.{Read, Refused}
+use Rattle.model.specs.declared.Refusal.{Refusal}
+use Rattle.model.specs.declared.Refusal.TheVariants.{PartOutside, WordOutside}
 use Rattle.model.specs.Lists.{below, any_of, is_none}
-use Rattle.model.specs.Values.{number, word_number, report_values}
+use Rattle.model.specs.Values.{number, word_number, refusal_of, report_values}
 use Rattle.model.specs.Plant.{PartHealth, PartCommands, smallest, largest, parts, fit, health_of_kind}
 use Rattle.model.specs.Choosing.{commands}
 use Rattle.model.specs.Sheet.{sheet}
@@ -130,16 +131,16 @@ unfoldable pub feeds_refusal : ℕ → PartHealth → ℕ
 feeds_refusal n H = first_met ((2, size_outside n) ∷ (9, health_outside H (parts n)) ∷ [])
 
 -- a report as its part and word, or its refusal
-unfoldable pub report_of : ℕ → Option Part → Option Word → ReportAnswer
-report_of n none w = Refused 5
-report_of n (some p) none = Refused 6
+unfoldable pub report_of : ℕ → Option Part → Option Word → Result (std.Option Report) Refusal
+report_of n none w = Err PartOutside
+report_of n (some p) none = Err WordOutside
 report_of n (some p) (some w) =
     let r : Report = record { part = p; word = w } in
     let k = first_met (report_conditions n r) in
-    cond (eqb k 0) (Read r) (Refused k)
+    cond (eqb k 0) (Ok (std.Some r)) (Err (refusal_of k))
 
 -- the report that a code and a word make in a ring of n
-unfoldable pub report_answer : ℕ → ℕ → ℕ → ReportAnswer
+unfoldable pub report_answer : ℕ → ℕ → ℕ → Result (std.Option Report) Refusal
 report_answer n c v = report_of n (part_named n c) (word_named v)
 
 -- the refusal of the report that a code and a word make, 0 where there is none

@@ -1,13 +1,13 @@
 -- The ring state (document 01: ring record) as the calls take it and give it: the ring, and the load that document 02, Note 5, books on it. The
 -- whole answer of each call, served or refused.
-use Rattle.std.specs.Prelude.{Bool, not, ◌||◌, cond, List, [], ◌∷◌, ℕ, eqb, length}
+use Rattle.std.specs.Prelude.{Bool, not, ◌||◌, cond, List, [], ◌∷◌, ℕ, eqb, length, Ok, Err}
+use Rattle.model.specs.Values.{refusal_of}
 use Rattle.model.specs.declared.Report.{Report}
 use Rattle.model.specs.declared.Scan.{Scan}
 use Rattle.model.specs.declared.Booking.{Booking}
 use Rattle.model.specs.declared.Load.{Load}
 use Rattle.model.specs.declared.Ring.{Ring}
 use Rattle.model.specs.declared.RingState.{RingState}
-use Rattle.model.specs.declared.Outcome.TheVariants as outcome
 use Rattle.model.specs.declared.StateAnswer.{StateAnswer}
 use Rattle.model.specs.declared.BookingAnswer.{BookingAnswer}
 use Rattle.model.specs.Sheet.{written}
@@ -56,13 +56,13 @@ pub record StateReply : Type 0 where
 
 -- "Each has its number as the answer, the record as handed in .."; "The choices of a refused start or step .. are all dark"
 unfoldable pub refused_state : ℕ → RingState → StateAnswer
-refused_state k state = record { outcome = outcome.Refused k; state = state; choices = all_dark }
+refused_state k state = record { outcome = Err (refusal_of k); state = state; choices = all_dark }
 
 -- "gives the new record, each bus's choice ..": of a ring state that was told its reports
 unfoldable pub served_state : RingState → StateAnswer
 served_state state =
     record {
-      outcome = outcome.Served;
+      outcome = Ok tt;
       state = reckoned (with_plan state.ring) state.load;
       choices = called_for state.ring;
     }
@@ -113,11 +113,11 @@ cancel_refusal state v = first_met ((9, bad_record state) ∷ (13, not (is_live 
 
 -- "Each has its number as the answer, the record as handed in"
 abbrev pub refused_booking : ℕ → RingState → BookingAnswer
-refused_booking k state = record { outcome = outcome.Refused k; state = state }
+refused_booking k state = record { outcome = Err (refusal_of k); state = state }
 
 -- a call of refusal k: served, it gives the ring with another load
 abbrev pub booking_by : ℕ → RingState → Load → BookingAnswer
-booking_by k state load = cond (eqb k 0) (record { outcome = outcome.Served; state = reckoned state.ring load }) (refused_booking k state)
+booking_by k state load = cond (eqb k 0) (record { outcome = Ok tt; state = reckoned state.ring load }) (refused_booking k state)
 
 -- "Programme staff book equipment on a bus .."
 unfoldable pub book_answer : RingState → Booking → BookingAnswer

@@ -1,5 +1,5 @@
 -- Document 01, "The printed run": the program's text as a list of bytes. A line feed ends every line.
-use Rattle.std.specs.Prelude.{◌≡◌, cond, List, [], ◌∷◌, ◌++◌, map, ℕ, zero, suc, ◌+◌, ◌*◌, ◌/◌, ◌%◌, ◌<◌, ltb, eqb, length, drop}
+use Rattle.std.specs.Prelude.{◌≡◌, cond, List, [], ◌∷◌, ◌++◌, map, ℕ, zero, suc, ◌+◌, ◌*◌, ◌/◌, ◌%◌, ◌<◌, ltb, eqb, length, drop, Option, None, Some, Result, Ok, Err}
 use Prim.Native.String.{String, [] as end, ◌∷◌ as ◌then◌}
 use Prim.Native.Char.{code}
 use Rattle.model.specs.declared.Part.{Part}
@@ -7,8 +7,8 @@ use Rattle.model.specs.declared.Part.TheVariants.{Generator, GeneratorBreaker, B
 use Rattle.model.specs.declared.Ring.{Ring}
 use Rattle.model.specs.declared.Choice.{Choice}
 use Rattle.model.specs.declared.BusChoice.{BusChoice}
-use Rattle.model.specs.declared.ReportAnswer.{ReportAnswer}
-use Rattle.model.specs.declared.ReportAnswer.TheVariants.{Read, Refused, Missing}
+use Rattle.model.specs.declared.Report.{Report}
+use Rattle.model.specs.declared.Refusal.{Refusal}
 use Rattle.model.specs.declared.RunCursor.{RunCursor}
 use Rattle.model.specs.Lists.{below}
 use Rattle.model.specs.Values.{number, choice_source, choice_letter, choice_at}
@@ -85,10 +85,10 @@ unfoldable pub refused_text : ℕ → List ℕ
 refused_text k = ascii "refused " ++ (decimal k ++ ascii "\n")
 
 -- a ring that was told the report of an answer, if it is one
-unfoldable pub told_answer : Ring → ReportAnswer → Ring
-told_answer ring (Read r) = told ring r
-told_answer ring (Refused k) = ring
-told_answer ring Missing = ring
+unfoldable pub told_answer : Ring → Result (Option Report) Refusal → Ring
+told_answer ring (Ok (Some r)) = told ring r
+told_answer ring (Ok None) = ring
+told_answer ring (Err r) = ring
 
 -- "line 0 for the start, and a line per report": the ring of line i, started and told the first i reports, the last one before its plan
 unfoldable pub run_ring : List ℕ → ℕ → Ring

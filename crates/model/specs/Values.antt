@@ -1,27 +1,37 @@
 -- The paper's number and values for every case of every enum that is, or is in, an answer.
 -- Numbers of parts, buses and generators are the paper's, from 1.
-use Rattle.std.specs.Prelude.{Bool, ◌&&◌, cond, List, [], ◌∷◌, map, ℕ, zero, suc, ◌+◌, eqb, get_or}
+use Rattle.std.specs.Prelude.{Bool, ◌&&◌, cond, List, [], ◌∷◌, map, ℕ, zero, suc, ◌+◌, eqb, get_or, Option, None, Some, Result, Ok, Err}
 use Prim.Native.Char.{code}
 use Rattle.model.specs.declared.Part.{Part}
 use Rattle.model.specs.declared.Part.TheVariants.{Generator, GeneratorBreaker, BusBreaker}
 use Rattle.model.specs.declared.Word.{Word}
 use Rattle.model.specs.declared.Word.TheVariants.{Fit, StuckOff, StuckOpen, StuckClosed, Lock, Unlock}
-use Rattle.model.specs.declared.Outcome.{Outcome}
-use Rattle.model.specs.declared.Outcome.TheVariants as outcome
+use Rattle.model.specs.declared.Report.{Report}
+use Rattle.model.specs.declared.Refusal.{Refusal}
+use Rattle.model.specs.declared.Refusal.TheVariants.{
+  FileShort,
+  SizeOutside,
+  ReportsAbove,
+  LengthOther,
+  PartOutside,
+  WordOutside,
+  BufferShort,
+  BadRecord,
+  BusOutside,
+  CountAbove,
+  WattsOutside,
+  BookingNumber,
+  BookingsFull,
+  RateOutside,
+  Unrated,
+}
+use Rattle.model.specs.declared.FileHead.{FileHead}
 use Rattle.model.specs.declared.Choice.{Choice}
 use Rattle.model.specs.declared.Choice.TheVariants as choice
 use Rattle.model.specs.declared.BusChoice.{BusChoice}
 use Rattle.model.specs.declared.Feed.{Feed}
 use Rattle.model.specs.declared.Feed.TheVariants as feed
 use Rattle.model.specs.declared.BusFeed.{BusFeed}
-use Rattle.model.specs.declared.PartAnswer.{PartAnswer}
-use Rattle.model.specs.declared.PartAnswer.TheVariants as part
-use Rattle.model.specs.declared.WordAnswer.{WordAnswer}
-use Rattle.model.specs.declared.WordAnswer.TheVariants as word
-use Rattle.model.specs.declared.ReportAnswer.{ReportAnswer}
-use Rattle.model.specs.declared.ReportAnswer.TheVariants as report
-use Rattle.model.specs.declared.FileAnswer.{FileAnswer}
-use Rattle.model.specs.declared.FileAnswer.TheVariants as file
 
 -- the number of a part among those of its kind
 abbrev pub number : Part → ℕ
@@ -57,14 +67,55 @@ word_number StuckClosed = 3
 word_number Lock = 4
 word_number Unlock = 5
 
+-- "What is sent back unserved": the table's numbers, and those of the Notes
+abbrev pub refusal_number : Refusal → ℕ
+refusal_number FileShort = 1
+refusal_number SizeOutside = 2
+refusal_number ReportsAbove = 3
+refusal_number LengthOther = 4
+refusal_number PartOutside = 5
+refusal_number WordOutside = 6
+refusal_number BufferShort = 8
+refusal_number BadRecord = 9
+refusal_number BusOutside = 10
+refusal_number CountAbove = 11
+refusal_number WattsOutside = 12
+refusal_number BookingNumber = 13
+refusal_number BookingsFull = 14
+refusal_number RateOutside = 15
+refusal_number Unrated = 16
+
+-- the refusal that has a number; of a number that none has this says nothing
+unfoldable pub refusal_of : ℕ → Refusal
+refusal_of k =
+    cond (eqb k 1) FileShort (
+    cond (eqb k 2) SizeOutside (
+    cond (eqb k 3) ReportsAbove (
+    cond (eqb k 4) LengthOther (
+    cond (eqb k 5) PartOutside (
+    cond (eqb k 6) WordOutside (
+    cond (eqb k 8) BufferShort (
+    cond (eqb k 9) BadRecord (
+    cond (eqb k 10) BusOutside (
+    cond (eqb k 11) CountAbove (
+    cond (eqb k 12) WattsOutside (
+    cond (eqb k 13) BookingNumber (
+    cond (eqb k 14) BookingsFull (
+    cond (eqb k 15) RateOutside (
+    Unrated))))))))))))))
+
+-- a call is served, or a refusal meets it
+abbrev pub Outcome : Type 0
+Outcome = Result Unit Refusal
+
 -- "Each has its number as the answer": the number of an outcome, 0 where it is served
 abbrev pub outcome_number : Outcome → ℕ
-outcome_number outcome.Served = 0
-outcome_number (outcome.Refused k) = k
+outcome_number (Ok _) = 0
+outcome_number (Err r) = refusal_number r
 
 -- the outcome that has a number
 unfoldable pub outcome_of : ℕ → Outcome
-outcome_of k = cond (eqb k 0) outcome.Served (outcome.Refused k)
+outcome_of k = cond (eqb k 0) (Ok tt) (Err (refusal_of k))
 
 -- the generator that a choice names; no generator is numbered 0
 abbrev pub choice_source : Choice → ℕ
@@ -105,22 +156,22 @@ unfoldable pub numbered : ℕ → List ℕ → ℕ × List ℕ
 numbered k vs = (k, cond (eqb k 0) vs [])
 
 -- the part's code
-abbrev pub part_values : PartAnswer → ℕ × List ℕ
-part_values (part.Named p) = (0, part_code p ∷ [])
-part_values (part.Refused k) = (k, [])
+abbrev pub part_values : Result Part Refusal → ℕ × List ℕ
+part_values (Ok p) = (0, part_code p ∷ [])
+part_values (Err r) = (refusal_number r, [])
 
 -- the word's number
-abbrev pub word_values : WordAnswer → ℕ × List ℕ
-word_values (word.Named w) = (0, word_number w ∷ [])
-word_values (word.Refused k) = (k, [])
+abbrev pub word_values : Result Word Refusal → ℕ × List ℕ
+word_values (Ok w) = (0, word_number w ∷ [])
+word_values (Err r) = (refusal_number r, [])
 
 -- the report's code and word; none where there is no report
-abbrev pub report_values : ReportAnswer → ℕ × List ℕ
-report_values (report.Read r) = (0, part_code r.part ∷ word_number r.word ∷ [])
-report_values (report.Refused k) = (k, [])
-report_values report.Missing = (0, [])
+abbrev pub report_values : Result (Option Report) Refusal → ℕ × List ℕ
+report_values (Ok (Some r)) = (0, part_code r.part ∷ word_number r.word ∷ [])
+report_values (Ok None) = (0, [])
+report_values (Err r) = (refusal_number r, [])
 
 -- n and m
-abbrev pub file_values : FileAnswer → ℕ × List ℕ
-file_values (file.Served n m) = (0, n ∷ m ∷ [])
-file_values (file.Refused k) = (k, [])
+abbrev pub file_values : Result FileHead Refusal → ℕ × List ℕ
+file_values (Ok head) = (0, head.n ∷ head.m ∷ [])
+file_values (Err r) = (refusal_number r, [])

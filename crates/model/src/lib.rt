@@ -3,7 +3,7 @@
 #![tactic(auto)]
 
 // "A report holds a part, which is a generator, a generator breaker or a bus breaker with its number, and a word."
-#[derive(Clone, Copy)]
+#[derive(Clone, Copy, PartialEq, Eq)]
 pub enum Part {
     Generator(u8),
     GeneratorBreaker(u8),
@@ -12,7 +12,7 @@ pub enum Part {
 
 // "Words: 0 fit again, 1 stuck off (generators), 2 stuck open, 3 stuck closed (breakers)."; "Word 4 locks it and word 5 unlocks it" (document
 // 02, Note 7), a generator.
-#[derive(Clone, Copy)]
+#[derive(Clone, Copy, PartialEq, Eq)]
 pub enum Word {
     Fit,
     StuckOff,
@@ -23,7 +23,7 @@ pub enum Word {
 }
 
 // "A report holds a part .. and a word."
-#[derive(Clone, Copy)]
+#[derive(Clone, Copy, PartialEq, Eq)]
 pub struct Report {
     pub part: Part,
     pub word: Word,
@@ -31,7 +31,7 @@ pub struct Report {
 
 // What the relay scanner "found in a cycle, up to 64 reports, as 64 places and a count; places past the count are not read" (document 02).
 // A byte counts, so that a count above 64 can be handed in and refused.
-#[derive(Clone, Copy)]
+#[derive(Clone, Copy, PartialEq, Eq)]
 pub struct Scan {
     pub reports: [Report; 64],
     pub count: u8,
@@ -49,7 +49,7 @@ pub const STUCK_CLOSED: u8 = 3;
 
 // The health of every part, a byte each, so that a damaged record can be held and refused; and "the lock beside the health" (document 02,
 // Note 7): true is locked.
-#[derive(Clone, Copy)]
+#[derive(Clone, Copy, PartialEq, Eq)]
 pub struct Health {
     pub generators: [u8; 20],
     pub generator_breakers: [u8; 20],
@@ -58,7 +58,7 @@ pub struct Health {
 }
 
 // The command (document 01: order) of every part: true is on or closed.
-#[derive(Clone, Copy)]
+#[derive(Clone, Copy, PartialEq, Eq)]
 pub struct Commands {
     pub generators: [bool; 20],
     pub generator_breakers: [bool; 20],
@@ -66,7 +66,7 @@ pub struct Commands {
 }
 
 // What switching needs of a ring state (document 01: ring record): "n, each part's health and its standing order".
-#[derive(Clone, Copy)]
+#[derive(Clone, Copy, PartialEq, Eq)]
 pub struct Ring {
     pub n: u8,
     pub health: Health,
@@ -75,7 +75,7 @@ pub struct Ring {
 
 // "A booking has a number from 0 to 65535, a bus and 1 to 100,000 watts" (document 02). Its bus and its watts have more values, so that
 // those outside the bounds can be handed in and refused.
-#[derive(Clone, Copy)]
+#[derive(Clone, Copy, PartialEq, Eq)]
 pub struct Booking {
     pub number: u16,
     pub bus: u8,
@@ -84,7 +84,7 @@ pub struct Booking {
 
 // "The ring record holds the live bookings", in its first places, and "gives every generator's watts, .. and the watts on dark buses"
 // (document 02).
-#[derive(Clone, Copy)]
+#[derive(Clone, Copy, PartialEq, Eq)]
 pub struct Load {
     pub bookings: [Booking; 64],
     pub live: u8,
@@ -93,14 +93,14 @@ pub struct Load {
 }
 
 // The ring state (document 01: ring record) as the calls take it and give it: the ring, and the load booked on it.
-#[derive(Clone, Copy)]
+#[derive(Clone, Copy, PartialEq, Eq)]
 pub struct RingState {
     pub ring: Ring,
     pub load: Load,
 }
 
 // What a bus is fed by: its own generator, or another by its high or low path (document 01: way).
-#[derive(Clone, Copy)]
+#[derive(Clone, Copy, PartialEq, Eq)]
 pub enum Choice {
     Dark,
     Own(u8),
@@ -109,14 +109,14 @@ pub enum Choice {
 }
 
 // An array of enums as a struct's field is held as an array of structs.
-#[derive(Clone, Copy)]
+#[derive(Clone, Copy, PartialEq, Eq)]
 pub struct BusChoice {
     pub choice: Choice,
 }
 
 // "For each bus its answer is one of three: dark, fed by one generator, or a clash that names the two lowest generators
 // feeding it."
-#[derive(Clone, Copy)]
+#[derive(Clone, Copy, PartialEq, Eq)]
 pub enum Feed {
     Dark,
     Fed(u8),
@@ -124,52 +124,66 @@ pub enum Feed {
 }
 
 // The answer of one bus.
-#[derive(Clone, Copy)]
+#[derive(Clone, Copy, PartialEq, Eq)]
 pub struct BusFeed {
     pub feed: Feed,
 }
 
-// Served, or sent back unserved with its number.
-#[derive(Clone, Copy)]
-pub enum Outcome {
-    Served,
-    Refused(u8),
+// "What is sent back unserved": the conditions of document 01's table and of the Notes, each with "its number as the answer". "refusal 7 is
+// given to no input any more" (document 02, Note 3).
+#[derive(Clone, Copy, PartialEq, Eq)]
+pub enum Refusal {
+    FileShort = 1,
+    SizeOutside = 2,
+    ReportsAbove = 3,
+    LengthOther = 4,
+    PartOutside = 5,
+    WordOutside = 6,
+    BufferShort = 8,
+    BadRecord = 9,
+    BusOutside = 10,
+    CountAbove = 11,
+    WattsOutside = 12,
+    BookingNumber = 13,
+    BookingsFull = 14,
+    RateOutside = 15,
+    Unrated = 16,
 }
 
 // What an inner start, step or scan answers: the ring alone.
-#[derive(Clone, Copy)]
+#[derive(Clone, Copy, PartialEq, Eq)]
 pub struct RingAnswer {
-    pub outcome: Outcome,
+    pub outcome: Result<(), Refusal>,
     pub ring: Ring,
     pub choices: [BusChoice; 20],
 }
 
 // What a start, a step or a scan answers.
-#[derive(Clone, Copy)]
+#[derive(Clone, Copy, PartialEq, Eq)]
 pub struct StateAnswer {
-    pub outcome: Outcome,
+    pub outcome: Result<(), Refusal>,
     pub state: RingState,
     pub choices: [BusChoice; 20],
 }
 
 // What a booking or a cancellation answers.
-#[derive(Clone, Copy)]
+#[derive(Clone, Copy, PartialEq, Eq)]
 pub struct BookingAnswer {
-    pub outcome: Outcome,
+    pub outcome: Result<(), Refusal>,
     pub state: RingState,
 }
 
 // What the plant reckoning answers.
-#[derive(Clone, Copy)]
+#[derive(Clone, Copy, PartialEq, Eq)]
 pub struct FeedsAnswer {
-    pub outcome: Outcome,
+    pub outcome: Result<(), Refusal>,
     pub buses: [BusFeed; 20],
 }
 
 // What the list of minimal cut sets answers: how many stand in the sheet.
-#[derive(Clone, Copy)]
+#[derive(Clone, Copy, PartialEq, Eq)]
 pub struct CutSetsAnswer {
-    pub outcome: Outcome,
+    pub outcome: Result<(), Refusal>,
     pub count: u16,
 }
 
@@ -207,55 +221,33 @@ pub struct Exposure {
 // What the call for a bus's chance of a dark hour answers.
 #[derive(Clone, Copy)]
 pub struct ExposureAnswer {
-    pub outcome: Outcome,
+    pub outcome: Result<(), Refusal>,
     pub exposure: Exposure,
 }
 
 // What the call for the ring after a fault file's last report answers.
-#[derive(Clone, Copy)]
+#[derive(Clone, Copy, PartialEq, Eq)]
 pub struct LatestAnswer {
-    pub outcome: Outcome,
+    pub outcome: Result<(), Refusal>,
     pub ring: Ring,
 }
 
-// The part that a code names in a ring, or refusal 5.
-#[derive(Clone, Copy)]
-pub enum PartAnswer {
-    Named(Part),
-    Refused(u8),
-}
-
-// The word that a byte names, or refusal 6.
-#[derive(Clone, Copy)]
-pub enum WordAnswer {
-    Named(Word),
-    Refused(u8),
-}
-
-// A report that stands at a place of the fault file, or its refusal, or no report there.
-#[derive(Clone, Copy)]
-pub enum ReportAnswer {
-    Read(Report),
-    Refused(u8),
-    Missing,
-}
-
-// A whole fault file's number of buses and of reports, or its first refusal.
-#[derive(Clone, Copy)]
-pub enum FileAnswer {
-    Served(u8, usize),
-    Refused(u8),
+// A whole fault file's number of buses and of reports: "Byte 0 is n.", and m.
+#[derive(Clone, Copy, PartialEq, Eq)]
+pub struct FileHead {
+    pub n: u8,
+    pub m: usize,
 }
 
 // How far the printed run of a file has come: the lines passed, of which a header or a refusal is one, and the ring behind them.
-#[derive(Clone, Copy)]
+#[derive(Clone, Copy, PartialEq, Eq)]
 pub struct RunCursor {
     pub place: usize,
     pub ring: Ring,
 }
 
 // A piece of a printed run in the front of a lent buffer: the cursor behind it, its length, and whether more follows.
-#[derive(Clone, Copy)]
+#[derive(Clone, Copy, PartialEq, Eq)]
 pub struct RunPiece {
     pub cursor: RunCursor,
     pub length: usize,

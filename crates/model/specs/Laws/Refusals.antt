@@ -1,25 +1,135 @@
 -- Laws of outcomes and of the refusals.
-use Rattle.std.specs.Prelude.{◌≡◌, refl, Bool, true, false, ◌⊎◌, ◌≢◌, ℕ, ◌≤◌, ◌<◌, ltb, eqb}
+use Rattle.std.specs.Prelude.{◌≡◌, refl, Bool, true, false, ◌⊎◌, ◌≢◌, List, [], ◌∷◌, ℕ, ◌≤◌, ◌<◌, ltb, eqb, Ok, Err}
 use Rattle.std.proofs.Math.Path.{sym, ap}
-use Rattle.std.proofs.Common.{◌∙◌, inl, inr, arith, ltb-false, lt-ltb, le-ltb, ne_eqb}
+use Rattle.std.proofs.Common.{◌∙◌, inl, inr, arith, lit<, ltb-false, lt-ltb, le-ltb, ne_eqb}
 use Rattle.std.proofs.Math.Bool.{cond}
 use Rattle.model.specs.declared.Ring.{Ring}
-use Rattle.model.specs.declared.Outcome.{Outcome}
-use Rattle.model.specs.declared.Outcome.TheVariants as outcome
+use Rattle.model.specs.declared.Refusal.{Refusal}
+use Rattle.model.specs.declared.Refusal.TheVariants.{
+  FileShort,
+  SizeOutside,
+  ReportsAbove,
+  LengthOther,
+  PartOutside,
+  WordOutside,
+  BufferShort,
+  BadRecord,
+  BusOutside,
+  CountAbove,
+  WattsOutside,
+  BookingNumber,
+  BookingsFull,
+  RateOutside,
+  Unrated,
+}
 use Rattle.model.specs.Lists.{any_of}
-use Rattle.model.specs.Values.{outcome_number, outcome_of}
+use Rattle.model.specs.Values.{Outcome, refusal_number, refusal_of, outcome_number, outcome_of}
 use Rattle.model.specs.Plant.{smallest, largest}
-use Rattle.model.specs.Refusals.{size_outside, bad_ring, bus_outside}
-use Rattle.model.specs.Laws.Tests.{never, or_none, or_right, dec, dec_eq}
+use Rattle.model.specs.Refusals.{first_met, or_else, size_outside, bad_ring, bus_outside}
+use Rattle.model.specs.Laws.Tests.{never, or_none, or_right, dec_eq}
 
--- the outcome that has a number has that number
-pub outcome_number_lem : (k : ℕ) → outcome_number (outcome_of k) ≡ k
+-- ---- the numbers of refusals
+
+-- a refusal's number names it
+pub refusal_named : (r : Refusal) → refusal_of (refusal_number r) ≡ r
+unfolding refusal_of
+refusal_named FileShort = refl
+refusal_named SizeOutside = refl
+refusal_named ReportsAbove = refl
+refusal_named LengthOther = refl
+refusal_named PartOutside = refl
+refusal_named WordOutside = refl
+refusal_named BufferShort = refl
+refusal_named BadRecord = refl
+refusal_named BusOutside = refl
+refusal_named CountAbove = refl
+refusal_named WattsOutside = refl
+refusal_named BookingNumber = refl
+refusal_named BookingsFull = refl
+refusal_named RateOutside = refl
+refusal_named Unrated = refl
+
+-- no refusal is numbered 0
+pub refusal_positive : (r : Refusal) → 0 < refusal_number r
+refusal_positive FileShort = lit< tt
+refusal_positive SizeOutside = lit< tt
+refusal_positive ReportsAbove = lit< tt
+refusal_positive LengthOther = lit< tt
+refusal_positive PartOutside = lit< tt
+refusal_positive WordOutside = lit< tt
+refusal_positive BufferShort = lit< tt
+refusal_positive BadRecord = lit< tt
+refusal_positive BusOutside = lit< tt
+refusal_positive CountAbove = lit< tt
+refusal_positive WattsOutside = lit< tt
+refusal_positive BookingNumber = lit< tt
+refusal_positive BookingsFull = lit< tt
+refusal_positive RateOutside = lit< tt
+refusal_positive Unrated = lit< tt
+
+-- .. or 7
+pub refusal_not_7 : (r : Refusal) → refusal_number r ≢ 7
+refusal_not_7 FileShort e = omega (arith, e)
+refusal_not_7 SizeOutside e = omega (arith, e)
+refusal_not_7 ReportsAbove e = omega (arith, e)
+refusal_not_7 LengthOther e = omega (arith, e)
+refusal_not_7 PartOutside e = omega (arith, e)
+refusal_not_7 WordOutside e = omega (arith, e)
+refusal_not_7 BufferShort e = omega (arith, e)
+refusal_not_7 BadRecord e = omega (arith, e)
+refusal_not_7 BusOutside e = omega (arith, e)
+refusal_not_7 CountAbove e = omega (arith, e)
+refusal_not_7 WattsOutside e = omega (arith, e)
+refusal_not_7 BookingNumber e = omega (arith, e)
+refusal_not_7 BookingsFull e = omega (arith, e)
+refusal_not_7 RateOutside e = omega (arith, e)
+refusal_not_7 Unrated e = omega (arith, e)
+
+-- k is 0 or the number of a refusal
+abbrev pub IsNumber : ℕ → Type 0
+IsNumber k = outcome_number (outcome_of k) ≡ k
+
+pub is_number : (r : Refusal) → IsNumber (refusal_number r)
+unfolding outcome_of refusal_of
+is_number FileShort = refl
+is_number SizeOutside = refl
+is_number ReportsAbove = refl
+is_number LengthOther = refl
+is_number PartOutside = refl
+is_number WordOutside = refl
+is_number BufferShort = refl
+is_number BadRecord = refl
+is_number BusOutside = refl
+is_number CountAbove = refl
+is_number WattsOutside = refl
+is_number BookingNumber = refl
+is_number BookingsFull = refl
+is_number RateOutside = refl
+is_number Unrated = refl
+
+pub zero_number : IsNumber 0
 unfolding outcome_of
-outcome_number_lem k = go (dec_eq k 0)
-  where
-    go : (k ≡ 0) ⊎ (k ≢ 0) → outcome_number (outcome_of k) ≡ k
-    go (inl e) = rw e
-    go (inr e) = rw (outcome_of, ne_eqb k 0 e)
+zero_number = refl
+
+-- one of two numbers
+pub cond_number : (met : Bool) {j k : ℕ} → IsNumber j → IsNumber k → IsNumber (cond met j k)
+cond_number true p q = p
+cond_number false p q = q
+
+-- the first of two refusals
+pub or_else_number : {j k : ℕ} → IsNumber j → IsNumber k → IsNumber (or_else j k)
+or_else_number {j = j} p q = cond_number (eqb j 0) q p
+
+-- the numbers of conditions
+pub data Numbers : List (ℕ × Bool) → Type 0 where
+  no_number : Numbers []
+  number_and : {k : ℕ} {met : Bool} {cs : List (ℕ × Bool)} → IsNumber k → Numbers cs → Numbers ((k, met) ∷ cs)
+
+-- the number of the first condition that is met
+pub first_number : {cs : List (ℕ × Bool)} → Numbers cs → IsNumber (first_met cs)
+unfolding first_met
+first_number no_number = zero_number
+first_number (number_and {met = met} p ps) = cond_number met p (first_number ps)
 
 -- a first condition that is not met
 pub first_unmet : (met : Bool) (j k : ℕ) → 0 < j → cond met j k ≡ 0 → (met ≡ false) × (k ≡ 0)
@@ -53,31 +163,49 @@ bus_inside n bus e = let t = or_none (ltb bus 1) (ltb n bus) e in (ltb-false bus
 -- ---- outcomes
 
 -- no outcome is both served and refused
-pub served_refused : {A : Type 0} {k : ℕ} {o : Outcome} → o ≡ outcome.Served → o ≡ outcome.Refused k → A
-served_refused {k = k} {o} p q = never cc
+pub served_refused : {A : Type 0} {r : Refusal} {o : Outcome} → o ≡ Ok tt → o ≡ Err r → A
+served_refused {r = r} {o} p q = never cc
+
+-- the outcome that has a number, of none and of a refusal
+pub served_of : outcome_of 0 ≡ Ok tt
+unfolding outcome_of
+served_of = refl
+
+pub refused_of : (k : ℕ) → k ≢ 0 → outcome_of k ≡ Err (refusal_of k)
+unfolding outcome_of
+refused_of k e = rw (ne_eqb k 0 e)
+
+-- the number of the refusal that has a number
+pub number_of_refusal : (k : ℕ) → IsNumber k → k ≢ 0 → refusal_number (refusal_of k) ≡ k
+number_of_refusal k p e = ap outcome_number (sym (refused_of k e)) ∙ p
 
 -- o is the outcome of number k
-pub outcome_is : (k : ℕ) (o : Outcome) → o ≡ outcome_of k → (o ≡ outcome_of k) × (outcome_number o ≡ k)
-outcome_is k o e = (e, rw e (outcome_number_lem k))
+pub outcome_is : {k : ℕ} → IsNumber k → (o : Outcome) → o ≡ outcome_of k → (o ≡ outcome_of k) × (outcome_number o ≡ k)
+outcome_is p o e = (e, rw e p)
 
 -- the number of an outcome that is served, and of one that is refused
 module _ {k : ℕ} {o : Outcome} (is : o ≡ outcome_of k) where
-  pub served_zero : o ≡ outcome.Served → k ≡ 0
-  served_zero e = sym (outcome_is k o is).1 ∙ ap outcome_number e
+  pub served_zero : o ≡ Ok tt → k ≡ 0
+  served_zero e = go (dec_eq k 0)
+    where
+      go : (k ≡ 0) ⊎ (k ≢ 0) → k ≡ 0
+      go (inl z) = z
+      go (inr z) = served_refused e (is ∙ refused_of k z)
 
-  pub refused_number : (j : ℕ) → o ≡ outcome.Refused j → (k ≡ j) × (k ≢ 0)
-  unfolding outcome_of
-  refused_number j e = (sym (outcome_is k o is).1 ∙ ap outcome_number e, λ z. served_refused (is ∙ rw z) e)
+  pub refused_by : (r : Refusal) → o ≡ Err r → (refusal_of k ≡ r) × (k ≢ 0)
+  refused_by r e = go (dec_eq k 0)
+    where
+      go : (k ≡ 0) ⊎ (k ≢ 0) → (refusal_of k ≡ r) × (k ≢ 0)
+      go (inl z) = served_refused (is ∙ ap outcome_of z ∙ served_of) e
+      go (inr z) = let t : Err (refusal_of k) ≡ Err r = sym (refused_of k z) ∙ sym is ∙ e in (cc, z)
+
+  pub refused_number : IsNumber k → (r : Refusal) → o ≡ Err r → (k ≡ refusal_number r) × (k ≢ 0)
+  refused_number p r e = (sym p ∙ ap outcome_number (sym is ∙ e), (refused_by r e).1)
 
 -- the answer to a call whose checks have the outcome o, of number k
-module _ {A : Type 0} (served : A) (refused : ℕ → A) (k : ℕ) (o : Outcome) (is : o ≡ outcome_of k) where
-  pub when_served : o ≡ outcome.Served → served ≡ cond (eqb k 0) served (refused k)
-  when_served e = let z : 0 ≡ k = ap outcome_number (sym e) ∙ (outcome_is k o is).1 in rw (← z)
+module _ {A : Type 0} (served : A) (refused : Refusal → A) (k : ℕ) (o : Outcome) (is : o ≡ outcome_of k) where
+  pub when_served : o ≡ Ok tt → served ≡ cond (eqb k 0) served (refused (refusal_of k))
+  when_served e = rw (served_zero is e)
 
-  pub when_refused : (j : ℕ) → o ≡ outcome.Refused j → refused j ≡ cond (eqb k 0) served (refused k)
-  unfolding outcome_of
-  when_refused j e = go (dec (eqb k 0))
-    where
-      go : (eqb k 0 ≡ true) ⊎ (eqb k 0 ≡ false) → refused j ≡ cond (eqb k 0) served (refused k)
-      go (inl q) = let z : outcome.Refused j ≡ outcome.Served = sym e ∙ is ∙ rw q in cc
-      go (inr q) = let z : j ≡ k = ap outcome_number (sym e) ∙ (outcome_is k o is).1 in rw (q, z)
+  pub when_refused : (r : Refusal) → o ≡ Err r → refused r ≡ cond (eqb k 0) served (refused (refusal_of k))
+  when_refused r e = let t = refused_by is r e in rw (ne_eqb k 0 t.1, t.0)

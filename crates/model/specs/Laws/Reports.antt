@@ -1,13 +1,14 @@
 -- Laws of files, codes, words and reports: what a file stands for; reading a code undoes writing it; a report is read or refused.
-use Rattle.std.specs.Prelude.{◌≡◌, refl, cond, ◌⊎◌, ◌≢◌, List, [], ◌∷◌, ℕ, ◌+◌, ◌≤◌, ◌<◌, min, eqb, length, take, drop}
+use Rattle.std.specs.Prelude.{◌≡◌, refl, cond, ◌⊎◌, ◌≢◌, List, [], ◌∷◌, ℕ, ◌+◌, ◌≤◌, ◌<◌, min, eqb, length, take, drop, Result, Ok, Err}
+use Rattle.std.specs.Prelude as std
 use Rattle.std.proofs.Common.{inl, inr, arith, eqb-true, eq-eqb, ne_eqb}
 use Rattle.std.proofs.Math.Option.{Option, none, some}
 use Rattle.model.specs.declared.Part.{Part}
 use Rattle.model.specs.declared.Word.{Word}
 use Rattle.model.specs.declared.Report.{Report}
-use Rattle.model.specs.declared.ReportAnswer.{ReportAnswer}
-use Rattle.model.specs.declared.ReportAnswer.TheVariants.{Read, Refused}
-use Rattle.model.specs.Values.{part_code}
+use Rattle.model.specs.declared.Refusal.{Refusal}
+use Rattle.model.specs.declared.Refusal.TheVariants.{PartOutside, WordOutside}
+use Rattle.model.specs.Values.{part_code, refusal_of}
 use Rattle.model.specs.Plant.{largest, parts, InRing}
 use Rattle.model.specs.Reports.{stands_for, file_count, file_codes, file_words, part_named, word_named}
 use Rattle.model.specs.Refusals.{first_met, report_conditions, report_of, report_answer}
@@ -46,8 +47,8 @@ code_named n c p e =
     ((r.0, omega (arith, r.1)), eqb-true (part_code p) c t.1)
 
 -- a report that no condition meets is read, or there is a refusal
-abbrev pub ReadOrRefused : ℕ → ReportAnswer → Type 0
-ReadOrRefused n a = ((r : Report) × (a ≡ Read r) × (first_met (report_conditions n r) ≡ 0)) ⊎ ((k : ℕ) × (a ≡ Refused k) × (k ≢ 0))
+abbrev pub ReadOrRefused : ℕ → Result (std.Option Report) Refusal → Type 0
+ReadOrRefused n a = ((r : Report) × (a ≡ Ok (std.Some r)) × (first_met (report_conditions n r) ≡ 0)) ⊎ ((r : Refusal) × (a ≡ Err r))
 
 -- a code and a word make one of the two
 pub read_or_refused : (n c v : ℕ) → ReadOrRefused n (report_answer n c v)
@@ -55,8 +56,8 @@ unfolding report_answer report_of
 read_or_refused n c v = go (part_named n c) (word_named v)
   where
     go : (o : Option Part) (u : Option Word) → ReadOrRefused n (report_of n o u)
-    go none u = inr (5, refl, λ e. omega arith)
-    go (some p) none = inr (6, refl, λ e. omega arith)
+    go none u = inr (PartOutside, refl)
+    go (some p) none = inr (WordOutside, refl)
     go (some p) (some w) = last (dec_eq k 0)
       where
         r : Report
@@ -65,6 +66,6 @@ read_or_refused n c v = go (part_named n c) (word_named v)
         k : ℕ
         k = first_met (report_conditions n r)
 
-        last : (k ≡ 0) ⊎ (k ≢ 0) → ReadOrRefused n (cond (eqb k 0) (Read r) (Refused k))
+        last : (k ≡ 0) ⊎ (k ≢ 0) → ReadOrRefused n (cond (eqb k 0) (Ok (std.Some r)) (Err (refusal_of k)))
         last (inl e) = inl (r, rw (eq-eqb k 0 e), e)
-        last (inr e) = inr (k, rw (ne_eqb k 0 e), e)
+        last (inr e) = inr (refusal_of k, rw (ne_eqb k 0 e))

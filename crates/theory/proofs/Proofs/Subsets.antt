@@ -1,5 +1,5 @@
 -- The subsets of a set of parts, the sets of one size, and the order of the list (document 02, Note 1).
-use Rattle.std.specs.Prelude.{◌≡◌, refl, Bool, true, false, ◌⊎◌, ℕ, zero, suc, ◌+◌, ◌≤◌, ◌<◌, ltb, length, take, drop}
+use Rattle.std.specs.Prelude.{◌≡◌, refl, Bool, true, false, ◌⊎◌, ℕ, zero, suc, ◌≤◌, ◌<◌, ltb, length, take, drop}
 use Rattle.std.proofs.Common.{sym, ◌∙◌, ap, ap₂, inl, inr, arith, ltb-true, lt-ltb}
 use mathlib.Core.List.Memᴰ
 use mathlib.Core.List.{

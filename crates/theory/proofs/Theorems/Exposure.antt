@@ -1,72 +1,34 @@
 -- Chance of a dark hour (document 02, Note 8): the figures of a served answer are numbers within their bounds, no answer has a NaN, and the
 -- bits of a figure name one number.
-use Rattle.std.specs.Prelude.{◌≡◌, refl, Bool, true, false, not, ◌&&◌, ◌⊎◌, List, [], ◌∷◌, map, ℕ, ◌+◌, ◌≤◌, T, eqb, pos, length, Float}
-use Rattle.std.proofs.Common.{sym, ◌∙◌, ap, inl, inr, arith, eqb-true}
+use Rattle.std.specs.Prelude.{◌≡◌, refl, true, false, not, [], ◌∷◌, ℕ, ◌≤◌, T, eqb, pos, Float}
+use Rattle.std.proofs.Common.{sym, ◌∙◌, ap, arith, eqb-true}
 use mathlib.Core.List.Memᴰ
-use Rattle.std.proofs.lemmas.List.{length-map}
 use Rattle.std.specs.Int.Count.{count_trailing_zeros}
 use Rattle.std.specs.Float.{inf, fin, binary64}
 use Rattle.std.specs.Float.Ieee.{span, climb, size, odd, units, round, sum, add, mul, lt, eq, le, fits, is_nan, to_bits, of_bits}
-use Rattle.std.specs.Float.Ieee.Scale.{finite}
-use Rattle.std.specs.Float.Ieee.Fits.{cond-fits, add-fits, mul-fits}
 use Rattle.std.specs.Float.Ieee.Bits.{of_bits-to_bits}
-use Rattle.std.proofs.lemmas.Bool.{not-false}
-use Rattle.model.specs.declared.Part.{Part}
 use Rattle.model.specs.declared.Part.TheVariants.{Generator}
 use Rattle.model.specs.declared.Rate.{Rate}
-use Rattle.model.specs.declared.Rate.TheVariants.{Chance, MeanHours, Unrated}
+use Rattle.model.specs.declared.Rate.TheVariants.{Chance, Unrated}
 use Rattle.model.specs.declared.Rates.{Rates}
 use Rattle.model.specs.declared.RingState.{RingState}
 use Rattle.model.specs.declared.Exposure.{Exposure}
-use Rattle.model.specs.Lists.{below, any_of, ◌∈◌}
+use Rattle.model.specs.Lists.{below, any_of}
 use Rattle.model.specs.Plant.{largest}
 use Rattle.model.specs.Reports.{health_of, places}
 use Rattle.model.specs.Values.{index}
 use Rattle.model.specs.Refusals.{first_met, bus_outside}
 use Rattle.model.specs.States.{bad_record}
 use Rattle.model.specs.CutSets.{ring_cut_sets}
-use Rattle.model.specs.Exposure.{
-  float0,
-  float1,
-  rate_of,
-  chance_of,
-  set_product,
-  product_sum,
-  greater_of,
-  largest_product,
-  exposure_of,
-  rate_outside,
-  some_outside,
-  is_unrated,
-  unrated_listed,
-  exposure_refusal,
-  exposure_answer,
-}
-use Rattle.model.specs.Laws.Tests.{contra, or_none, and_left, and_right, by_cond}
-use Rattle.model.specs.Laws.Lists.{map_in, map_at, any_none}
+use Rattle.model.specs.Exposure.{rate_of, chance_of, set_product, product_sum, greater_of, largest_product, exposure_of, rate_outside, some_outside, is_unrated, unrated_listed, exposure_refusal, exposure_answer}
+use Rattle.model.specs.Laws.Tests.{by_cond}
+use Rattle.model.specs.Laws.Lists.{any_none}
 use Rattle.model.specs.Laws.Parts.{parts_in}
 use Rattle.model.specs.Laws.Refusals.{first_unmet, good_size}
 use Rattle.model.specs.Laws.Bookings.{good_state}
 use Rattle.theory.specs.Statements.Exposure.{Figures}
 use Rattle.theory.specs.Statements.Recipe.{by_kind}
 use Rattle.theory.proofs.Theorems.CutSets.{listed}
-use Rattle.theory.proofs.Proofs.Floats.{
-  Portion,
-  portion_of,
-  portion_le,
-  portion_number,
-  mul_portion,
-  div_portion,
-  Plus,
-  add_plus,
-  plus_number,
-  plus_above,
-  not_greater,
-  largest_of,
-  up_to_finite,
-  sum_up_to,
-  fold_keeps,
-}
 use Rattle.theory.proofs.Theorems.Figures.{chance_portion, product_portion, figures}
 
 -- ---- a served answer

@@ -1,6 +1,8 @@
 -- Document 02, Note 3: no call finds 7, no text prints it, and document 01's example of it is served.
-use Rattle.std.specs.Prelude.{◌≡◌, refl, Bool, true, false, not, ◌&&◌, cond, ◌≢◌, ◌⊎◌, eqb, ltb, pos, length, get_or, drop}
+use Rattle.std.specs.Prelude.{◌≡◌, refl, Bool, true, false, not, ◌&&◌, cond, ◌≢◌, ◌⊎◌, eqb, ltb, pos, length, get_or, drop, Ok, Err}
+use Rattle.std.specs.Prelude as std
 use Rattle.std.proofs.Common.{ap, inl, inr, arith, length-append, ltb-true, ltb-false, eq-eqb}
+use Rattle.std.proofs.lemmas.Bool.{eqb-false}
 use mathlib.Core.List.{List, [], ◌∷◌, ◌++◌, map, flat_map, append_assoc, append-nil}
 use Rattle.std.proofs.Math.Option.{Option, none, some}
 use Prim.Native.Char.{code}
@@ -22,13 +24,9 @@ use Rattle.model.specs.declared.Load.{Load}
 use Rattle.model.specs.declared.Rate.TheVariants.{Chance, Unrated}
 use Rattle.model.specs.declared.Rates.{Rates}
 use Rattle.model.specs.declared.Exposure.{Exposure}
-use Rattle.model.specs.declared.Outcome.{Outcome}
-use Rattle.model.specs.declared.Outcome.TheVariants as outcome
 use Rattle.model.specs.declared.BookingAnswer.{BookingAnswer}
-use Rattle.model.specs.declared.ReportAnswer.TheVariants.{Missing}
-use Rattle.model.specs.declared.FileAnswer.TheVariants.{Served}
 use Rattle.model.specs.Lists.{below, keep, first, any_of, all_of}
-use Rattle.model.specs.Values.{same_part, part_code, outcome_number, outcome_of, part_values, word_values, report_values, file_values}
+use Rattle.model.specs.Values.{Outcome, refusal_number, refusal_of, same_part, part_code, outcome_number, outcome_of, part_values, word_values, report_values, file_values}
 use Rattle.model.specs.Plant.{parts, health_of_kind, next, up, arc, connected}
 use Rattle.model.specs.Priority.{others, sources, path_bus_breakers, path_breakers, path_parts, high_rises, paths_from, paths}
 use Rattle.model.specs.Choosing.{on_paths, usable, counted_closed, isolated, permitted, choose, add_path, chosen, choice_of, plan, commands, choices}
@@ -171,8 +169,9 @@ use Rattle.model.specs.Text.{
 use Rattle.model.specs.CutText.{count_line, cut_text, latest_ring, printed_cut_sets}
 use Rattle.model.specs.ExposureText.{hex_digits, bits_text, exposure_text, answered_text, exposure_line, bus_exposure_line, exposure_lines, printed_exposures}
 use Rattle.model.specs.ScanText.{sheet_room, scan_text}
+use Rattle.model.specs.Laws.Refusals.{number_of_refusal, refusal_not_7}
+use Rattle.model.specs.Laws.Numbers.{report_number}
 use Rattle.model.specs.Laws.Tests.{contra, dec, by_cond}
-use Rattle.model.specs.Laws.Refusals.{outcome_number_lem}
 use Rattle.model.specs.Laws.Digits.{hex_length}
 use Rattle.theory.specs.Statements.Recipe.{by_kind}
 use Rattle.theory.specs.Statements.Numbers.{NeverGiven}
@@ -207,7 +206,9 @@ module _ (k : ℕ) where
     read_never n (some p) none = other 6 six
     read_never n (some p) (some w) =
         let r : Report = record { part = p; word = w } in
-        by_cond (λ a. (report_values a).0 ≢ k) (eqb (first_met (report_conditions n r)) 0) (λ t. other 0 zero) (λ t. report_never n r)
+        let j = first_met (report_conditions n r) in
+        by_cond (λ a. (report_values a).0 ≢ k) (eqb j 0) (λ t. other 0 zero)
+        (λ t. rw (number_of_refusal j (report_number n r) (λ z. eqb-false j 0 t z)) (report_never n r))
 
     pub reports_never : (n : ℕ) (cs vs : List ℕ) → reports_refusal n cs vs ≢ k
     unfolding reports_refusal report_refusal report_answer
@@ -290,21 +291,26 @@ cancel_never state v = more 7 (bad_record state) 9 _ refl (more 7 (not (is_live 
 
 -- ---- the answers
 
+-- no refusal is numbered 7, so that an outcome's number is 7 only where a call's own refusal is
+never_numbered : (o : Outcome) → outcome_number o ≢ 7
+never_numbered (Ok _) = served
+never_numbered (Err r) = refusal_not_7 r
+
 outcome_never : (j : ℕ) → j ≢ 7 → outcome_number (outcome_of j) ≢ 7
-outcome_never j p = rw (outcome_number_lem j) p
+outcome_never j p = never_numbered (outcome_of j)
 
 reply_never : (j : ℕ) (ring kept : Ring) (buffer : List ℕ) → j ≢ 7 → outcome_number (reply_by j ring kept buffer).answer.outcome ≢ 7
 unfolding served_reply served_answer refused_reply refused_answer
 reply_never j ring kept buffer p =
-    by_cond (λ (x : Reply). outcome_number x.answer.outcome ≢ 7) (eqb j 0) (λ t. served) (λ t. p)
+    by_cond (λ (x : Reply). outcome_number x.answer.outcome ≢ 7) (eqb j 0) (λ t. served) (λ t. refusal_not_7 (refusal_of j))
 
 by_never : (j : ℕ) (state kept : RingState) (buffer : List ℕ) → j ≢ 7 → outcome_number (state_by j state kept buffer).answer.outcome ≢ 7
 unfolding served_state refused_state
 by_never j state kept buffer p =
-    by_cond (λ (x : StateReply). outcome_number x.answer.outcome ≢ 7) (eqb j 0) (λ t. served) (λ t. p)
+    by_cond (λ (x : StateReply). outcome_number x.answer.outcome ≢ 7) (eqb j 0) (λ t. served) (λ t. refusal_not_7 (refusal_of j))
 
 booking_never : (j : ℕ) (state : RingState) (load : Load) → j ≢ 7 → outcome_number (booking_by j state load).outcome ≢ 7
-booking_never j state load p = by_cond (λ (x : BookingAnswer). outcome_number x.outcome ≢ 7) (eqb j 0) (λ t. served) (λ t. p)
+booking_never j state load p = by_cond (λ (x : BookingAnswer). outcome_number x.outcome ≢ 7) (eqb j 0) (λ t. served) (λ t. refusal_not_7 (refusal_of j))
 
 named_never : (o : Option Part) → (part_values (part_answer o)).0 ≢ 7
 unfolding part_answer
@@ -318,13 +324,13 @@ word_never (some w) = served
 
 file_answer_never : (f : List ℕ) → (file_values (file_answer f)).0 ≢ 7
 unfolding file_answer
-file_answer_never f = by_cond (λ a. (file_values a).0 ≢ 7) (eqb (file_refusal f) 0) (λ t. served) (λ t. file_never f)
+file_answer_never f = by_cond (λ a. (file_values a).0 ≢ 7) (eqb (file_refusal f) 0) (λ t. served) (λ t. refusal_not_7 (refusal_of (file_refusal f)))
 
 at_never : (n : ℕ) (cs vs : List ℕ) (i : ℕ) → (report_values (report_at n cs vs i)).0 ≢ 7
 unfolding report_at report_answer
 at_never n cs vs i = go (ltb i (length cs) && ltb i (length vs))
   where
-    go : (within : Bool) → (report_values (cond within (report_answer n (get_or cs i 0) (get_or vs i 0)) Missing)).0 ≢ 7
+    go : (within : Bool) → (report_values (cond within (report_answer n (get_or cs i 0) (get_or vs i 0)) (Ok std.None))).0 ≢ 7
     go true = read_never 7 refl refl refl n (part_named n (get_or cs i 0)) (word_named (get_or vs i 0))
     go false = served
 
@@ -338,7 +344,7 @@ list_answer_never state bus buffer = go (cut_sets_refusal state bus (length buff
   where
     go : (j : ℕ) → j ≢ 7
         → outcome_number (cond (eqb j 0) (served_cut_sets (ring_cut_sets state.ring bus) buffer) (refused_cut_sets j buffer)).answer.outcome ≢ 7
-    go j p = by_cond (λ (x : CutSetsReply). outcome_number x.answer.outcome ≢ 7) (eqb j 0) (λ t. served) (λ t. p)
+    go j p = by_cond (λ (x : CutSetsReply). outcome_number x.answer.outcome ≢ 7) (eqb j 0) (λ t. served) (λ t. refusal_not_7 (refusal_of j))
 
 -- ---- the texts
 
@@ -426,11 +432,11 @@ longer b rest t e = omega (arith, ap length e, length-append b rest)
 -- and a bus's figures are longer than a refusal
 answered_never : (o : Outcome) (e : Exposure) → outcome_number o ≢ 7 → answered_text o e ≢ refused_text 7
 unfolding answered_text exposure_text bits_text refused_text decimal digits ascii
-answered_never outcome.Served e p q =
+answered_never (Ok _) e p q =
     let b = hex_digits 16 (to_bits binary64 e.sum) in
     let l : length b ≤ length (refused_text 7) = longer b _ (refused_text 7) q in
     omega (arith, hex_length 16 (to_bits binary64 e.sum))
-answered_never (outcome.Refused k) e p q = text_never k p q
+answered_never (Err r) e p q = text_never (refusal_number r) p q
 
 -- a served scan's line begins with its number
 begins : (i : ℕ) (rest text : List ℕ) → decimal i ++ rest ≡ text → get_or text 0 0 ≤ 57
@@ -481,7 +487,7 @@ never_seven = record {
 }
 
 -- document 01's example of 7, `3 1 0 0 0`, is served
-pub example_served : file_answer (3 ∷ 1 ∷ 0 ∷ 0 ∷ 0 ∷ []) ≡ Served 3 1
+pub example_served : file_answer (3 ∷ 1 ∷ 0 ∷ 0 ∷ 0 ∷ []) ≡ Ok (record { n = 3; m = 1 })
 unfolding file_answer file_refusal first_met size_outside reports_refusal report_refusal report_answer report_of report_conditions not_of_ring word_of_other_kind
     part_named part_code parts below first word_named
 example_served = refl
@@ -514,7 +520,7 @@ pub others_given : (NeverGiven 1 → ⊥) × (NeverGiven 2 → ⊥) × (NeverGiv
     × (NeverGiven 6 → ⊥) × (NeverGiven 8 → ⊥) × (NeverGiven 9 → ⊥) × (NeverGiven 10 → ⊥) × (NeverGiven 11 → ⊥) × (NeverGiven 12 → ⊥)
     × (NeverGiven 13 → ⊥) × (NeverGiven 14 → ⊥) × (NeverGiven 15 → ⊥) × (NeverGiven 16 → ⊥)
 unfolding file_answer file_refusal first_met size_outside reports_refusal report_refusal report_answer report_of report_conditions not_of_ring word_of_other_kind
-    part_named part_code parts below first word_named outcome_of sheet_refusal too_short cut_sets_reply cut_sets_refusal bad_ring any_of blank_ring
+    part_named part_code parts below first word_named outcome_of refusal_of sheet_refusal too_short cut_sets_reply cut_sets_refusal bad_ring any_of blank_ring
     refused_cut_sets started with_plan planned commands on_paths chosen add_path choose permitted isolated counted_closed usable paths paths_from
     high_rises path_parts path_breakers path_bus_breakers sources others flat_map connected arc up next same_part all_of keep places health_of
     commands_of health_places command_places health_outside health_of_kind active_above locked_above unplanned bus_outside scan_refusal count_above full
@@ -545,7 +551,7 @@ pub each_gives : (NeverGiven 1 → ⊥) × (NeverGiven 5 → ⊥) × (NeverGiven
     × (NeverGiven 2 → ⊥) × (NeverGiven 2 → ⊥) × (NeverGiven 9 → ⊥) × (NeverGiven 2 → ⊥) × (NeverGiven 9 → ⊥) × (NeverGiven 9 → ⊥)
     × (NeverGiven 5 → ⊥) × (NeverGiven 1 → ⊥) × (NeverGiven 1 → ⊥) × (NeverGiven 1 → ⊥) × (NeverGiven 9 → ⊥) × (NeverGiven 9 → ⊥)
 unfolding file_refusal first_met size_outside report_refusal report_answer report_of report_conditions not_of_ring word_of_other_kind part_answer
-    word_answer part_named part_code parts below first word_named outcome_of report_at feeds_answer feeds_refusal start_reply start_refusal step_reply
+    word_answer part_named part_code parts below first word_named outcome_of refusal_of report_at feeds_answer feeds_refusal start_reply start_refusal step_reply
     step_refusal refused_reply refused_answer bad_ring any_of blank_ring first_refusal printed_run run_lines refused_lines joined printed_cut_sets
     printed_exposures answered_text exposure_answer exposure_refusal scan_text scan_reply scan_refusal state_start state_step state_refusal refused_state
     bad_record unloaded

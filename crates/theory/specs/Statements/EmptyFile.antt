@@ -1,8 +1,7 @@
 -- Document 02, Note 9, "An empty file": what a file of no bytes stands for, and which files refusal 1 meets.
-use Rattle.std.specs.Prelude.{◌≡◌, ◌⊎◌, List, [], ◌∷◌, ℕ, ◌+◌, ◌<◌, length, take, drop}
+use Rattle.std.specs.Prelude.{◌≡◌, ◌⊎◌, List, [], ◌∷◌, ℕ, ◌+◌, ◌<◌, length, take, drop, Ok}
 use Prim.Native.String.{String}
 use Rattle.model.specs.declared.Rates.{Rates}
-use Rattle.model.specs.declared.FileAnswer.TheVariants.{Served}
 use Rattle.model.specs.Reports.{stands_for, file_count, file_codes, file_words}
 use Rattle.model.specs.Refusals.{file_refusal}
 use Rattle.model.specs.Answers.{file_answer, whole_values}
@@ -33,7 +32,7 @@ empty_run = "ring 3 reports 0\n0 B1=G1o B2=G2o B3=G2h / - / G1+ GB1+ G2+ GB2+ BB
 pub record EmptyFile : Type 0 where
   -- "That file now stands for a ring of three without reports and prints what `3 0 0` prints."
   pub same : SameFile [] (3 ∷ 0 ∷ 0 ∷ [])
-  pub served : file_answer [] ≡ Served 3 0
+  pub served : file_answer [] ≡ Ok (record { n = 3; m = 0 })
   pub prints : printed_run [] ≡ ascii empty_run
   -- "Refusal 1 is for one or two bytes."
   pub one : (a : ℕ) → file_refusal (a ∷ []) ≡ 1
