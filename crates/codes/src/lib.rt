@@ -8,7 +8,7 @@ ghost use Rattle.model.specs.Refusals.{not_of_ring};
 ghost use Rattle.model.specs.Answers.{part_answer, code_values};
 ghost use Rattle.codes.specs.Codes.{of_ring};
 
-use model::{Part, PartAnswer};
+use model::{Part, Refusal};
 
 // The number of a part among those of its kind.
 fn part_number(part: Part) -> u8
@@ -30,19 +30,19 @@ pub fn not_of_ring(n: u8, part: Part) -> bool
 }
 
 // The part, if the ring has it.
-fn named_in_ring(n: u8, part: Part) -> PartAnswer
+fn named_in_ring(n: u8, part: Part) -> Result<Part, Refusal>
     ensures { result ≡ part_answer (of_ring n part) }
 {
     if not_of_ring(n, part) {
-        PartAnswer::Refused(5)
+        Err(Refusal::PartOutside)
     } else {
-        PartAnswer::Named(part)
+        Ok(part)
     }
 }
 
 // "Part codes: 0 to n − 1 are G1 to Gn, 32 to 31 + n are GB1 to GBn, 64 to 63 + n are BB1 to BBn." The
 // test against n follows the range; numbers are from 1.
-pub fn part_of(code: u8, n: u8) -> PartAnswer
+pub fn part_of(code: u8, n: u8) -> Result<Part, Refusal>
     ensures answer { result ≡ part_answer (part_named n code) }
     ensures values { part_values result ≡ code_values n code }
 {
@@ -50,7 +50,7 @@ pub fn part_of(code: u8, n: u8) -> PartAnswer
         0..=19 => named_in_ring(n, Part::Generator(code + 1)),
         32..=51 => named_in_ring(n, Part::GeneratorBreaker(code - 31)),
         64..=83 => named_in_ring(n, Part::BusBreaker(code - 63)),
-        _ => PartAnswer::Refused(5),
+        _ => Err(Refusal::PartOutside),
     }
 }
 

@@ -15,6 +15,7 @@ use Rattle.model.specs.declared.Refusal.TheVariants.{
   LengthOther,
   PartOutside,
   WordOutside,
+  GeneratorFit,
   BufferShort,
   BadRecord,
   BusOutside,
@@ -75,6 +76,7 @@ refusal_number ReportsAbove = 3
 refusal_number LengthOther = 4
 refusal_number PartOutside = 5
 refusal_number WordOutside = 6
+refusal_number GeneratorFit = 7
 refusal_number BufferShort = 8
 refusal_number BadRecord = 9
 refusal_number BusOutside = 10
@@ -94,6 +96,7 @@ refusal_of k =
     cond (eqb k 4) LengthOther (
     cond (eqb k 5) PartOutside (
     cond (eqb k 6) WordOutside (
+    cond (eqb k 7) GeneratorFit (
     cond (eqb k 8) BufferShort (
     cond (eqb k 9) BadRecord (
     cond (eqb k 10) BusOutside (
@@ -102,7 +105,7 @@ refusal_of k =
     cond (eqb k 13) BookingNumber (
     cond (eqb k 14) BookingsFull (
     cond (eqb k 15) RateOutside (
-    Unrated))))))))))))))
+    Unrated)))))))))))))))
 
 -- a call is served, or a refusal meets it
 abbrev pub Outcome : Type 0

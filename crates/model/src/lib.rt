@@ -14,12 +14,12 @@ pub enum Part {
 // 02, Note 7), a generator.
 #[derive(Clone, Copy, PartialEq, Eq)]
 pub enum Word {
-    Fit,
-    StuckOff,
-    StuckOpen,
-    StuckClosed,
-    Lock,
-    Unlock,
+    Fit = 0,
+    StuckOff = 1,
+    StuckOpen = 2,
+    StuckClosed = 3,
+    Lock = 4,
+    Unlock = 5,
 }
 
 // "A report holds a part .. and a word."
@@ -130,7 +130,7 @@ pub struct BusFeed {
 }
 
 // "What is sent back unserved": the conditions of document 01's table and of the Notes, each with "its number as the answer". "refusal 7 is
-// given to no input any more" (document 02, Note 3).
+// given to no input any more" (document 02, Note 3): it stands here as it stands in the table.
 #[derive(Clone, Copy, PartialEq, Eq)]
 pub enum Refusal {
     FileShort = 1,
@@ -139,6 +139,7 @@ pub enum Refusal {
     LengthOther = 4,
     PartOutside = 5,
     WordOutside = 6,
+    GeneratorFit = 7,
     BufferShort = 8,
     BadRecord = 9,
     BusOutside = 10,

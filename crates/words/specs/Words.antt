@@ -1,11 +1,11 @@
 -- Words: what each byte names, and the answer to it with its values.
-use Rattle.std.specs.Prelude.{◌≡◌, refl, [], ◌∷◌, ℕ, ◌<◌, eqb}
+use Rattle.std.specs.Prelude.{◌≡◌, refl, [], ◌∷◌, ℕ, ◌<◌, eqb, Result, Ok, Err}
 use Rattle.std.proofs.Common.{ap, arith, eqb-true, ne_eqb}
 use Rattle.std.proofs.Math.Option.{Option, none, some}
 use Rattle.model.specs.declared.Word.{Word}
 use Rattle.model.specs.declared.Word.TheVariants.{Fit, StuckOff, StuckOpen, StuckClosed, Lock, Unlock}
-use Rattle.model.specs.declared.WordAnswer.{WordAnswer}
-use Rattle.model.specs.declared.WordAnswer.TheVariants as word
+use Rattle.model.specs.declared.Refusal.{Refusal}
+use Rattle.model.specs.declared.Refusal.TheVariants.{WordOutside}
 use Rattle.model.specs.Lists.{first, is_none}
 use Rattle.model.specs.Values.{word_number, numbered, word_values}
 use Rattle.model.specs.Reports.{word_named}
@@ -44,10 +44,10 @@ no_word v h = first_none (λ u. eqb (word_number u) v) (Fit ∷ StuckOff ∷ Stu
     other Unlock e = omega arith
 
 -- r is the answer to the byte v, with its values
-abbrev pub WordAnswered : ℕ → WordAnswer → Type 0
+abbrev pub WordAnswered : ℕ → Result Word Refusal → Type 0
 WordAnswered v r = (r ≡ word_answer (word_named v)) × (word_values r ≡ byte_values v)
 
-word_gives : (v : ℕ) (r : WordAnswer) → r ≡ word_answer (word_named v) → WordAnswered v r
+word_gives : (v : ℕ) (r : Result Word Refusal) → r ≡ word_answer (word_named v) → WordAnswered v r
 unfolding word_answer byte_values byte_refusal first_met numbered
 word_gives v r e = (e, rw e (go (word_named v) refl))
   where
@@ -56,11 +56,11 @@ word_gives v r e = (e, rw e (go (word_named v) refl))
     go (some w) q = ap (λ k. (0, k ∷ [])) (word_named_lem v w q)
 
 -- a word's number
-pub word_of_number : (v : ℕ) (w : Word) → v ≡ word_number w → WordAnswered v (word.Named w)
+pub word_of_number : (v : ℕ) (w : Word) → v ≡ word_number w → WordAnswered v (Ok w)
 unfolding word_answer
-word_of_number v w e = word_gives v (word.Named w) (rw (e, number_names w))
+word_of_number v w e = word_gives v (Ok w) (rw (e, number_names w))
 
 -- a number above those of the words
-pub word_above : (v : ℕ) → 5 < v → WordAnswered v (word.Refused 6)
+pub word_above : (v : ℕ) → 5 < v → WordAnswered v (Err WordOutside)
 unfolding word_answer
-word_above v h = word_gives v (word.Refused 6) (rw (no_word v h))
+word_above v h = word_gives v (Err WordOutside) (rw (no_word v h))

@@ -6,22 +6,22 @@ ghost use Rattle.model.specs.Values.{word_number, word_values};
 ghost use Rattle.model.specs.Reports.{word_named};
 ghost use Rattle.model.specs.Answers.{word_answer, byte_values};
 
-use model::{Word, WordAnswer};
+use model::{Refusal, Word};
 
 // "Words: 0 fit again, 1 stuck off (generators), 2 stuck open, 3 stuck closed (breakers)."; "Word 4 locks it and word 5 unlocks it" (document
 // 02, Note 7).
-pub fn word_of(byte: u8) -> WordAnswer
+pub fn word_of(byte: u8) -> Result<Word, Refusal>
     ensures answer { result ≡ word_answer (word_named byte) }
     ensures values { word_values result ≡ byte_values byte }
 {
     match byte {
-        0 => WordAnswer::Named(Word::Fit),
-        1 => WordAnswer::Named(Word::StuckOff),
-        2 => WordAnswer::Named(Word::StuckOpen),
-        3 => WordAnswer::Named(Word::StuckClosed),
-        4 => WordAnswer::Named(Word::Lock),
-        5 => WordAnswer::Named(Word::Unlock),
-        _ => WordAnswer::Refused(6),
+        0 => Ok(Word::Fit),
+        1 => Ok(Word::StuckOff),
+        2 => Ok(Word::StuckOpen),
+        3 => Ok(Word::StuckClosed),
+        4 => Ok(Word::Lock),
+        5 => Ok(Word::Unlock),
+        _ => Err(Refusal::WordOutside),
     }
 }
 
@@ -29,12 +29,5 @@ pub fn word_of(byte: u8) -> WordAnswer
 pub fn number_of(word: Word) -> u8
     ensures { result ≡ word_number word }
 {
-    match word {
-        Word::Fit => 0,
-        Word::StuckOff => 1,
-        Word::StuckOpen => 2,
-        Word::StuckClosed => 3,
-        Word::Lock => 4,
-        Word::Unlock => 5,
-    }
+    word as u8
 }

@@ -12,6 +12,7 @@ use Rattle.model.specs.declared.Refusal.TheVariants.{
   LengthOther,
   PartOutside,
   WordOutside,
+  GeneratorFit,
   BufferShort,
   BadRecord,
   BusOutside,
@@ -39,6 +40,7 @@ refusal_named ReportsAbove = refl
 refusal_named LengthOther = refl
 refusal_named PartOutside = refl
 refusal_named WordOutside = refl
+refusal_named GeneratorFit = refl
 refusal_named BufferShort = refl
 refusal_named BadRecord = refl
 refusal_named BusOutside = refl
@@ -57,6 +59,7 @@ refusal_positive ReportsAbove = lit< tt
 refusal_positive LengthOther = lit< tt
 refusal_positive PartOutside = lit< tt
 refusal_positive WordOutside = lit< tt
+refusal_positive GeneratorFit = lit< tt
 refusal_positive BufferShort = lit< tt
 refusal_positive BadRecord = lit< tt
 refusal_positive BusOutside = lit< tt
@@ -66,24 +69,6 @@ refusal_positive BookingNumber = lit< tt
 refusal_positive BookingsFull = lit< tt
 refusal_positive RateOutside = lit< tt
 refusal_positive Unrated = lit< tt
-
--- .. or 7
-pub refusal_not_7 : (r : Refusal) → refusal_number r ≢ 7
-refusal_not_7 FileShort e = omega (arith, e)
-refusal_not_7 SizeOutside e = omega (arith, e)
-refusal_not_7 ReportsAbove e = omega (arith, e)
-refusal_not_7 LengthOther e = omega (arith, e)
-refusal_not_7 PartOutside e = omega (arith, e)
-refusal_not_7 WordOutside e = omega (arith, e)
-refusal_not_7 BufferShort e = omega (arith, e)
-refusal_not_7 BadRecord e = omega (arith, e)
-refusal_not_7 BusOutside e = omega (arith, e)
-refusal_not_7 CountAbove e = omega (arith, e)
-refusal_not_7 WattsOutside e = omega (arith, e)
-refusal_not_7 BookingNumber e = omega (arith, e)
-refusal_not_7 BookingsFull e = omega (arith, e)
-refusal_not_7 RateOutside e = omega (arith, e)
-refusal_not_7 Unrated e = omega (arith, e)
 
 -- k is 0 or the number of a refusal
 abbrev pub IsNumber : ℕ → Type 0
@@ -97,6 +82,7 @@ is_number ReportsAbove = refl
 is_number LengthOther = refl
 is_number PartOutside = refl
 is_number WordOutside = refl
+is_number GeneratorFit = refl
 is_number BufferShort = refl
 is_number BadRecord = refl
 is_number BusOutside = refl

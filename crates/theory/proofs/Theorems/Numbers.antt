@@ -1,7 +1,7 @@
 -- Document 02, Note 3: no call finds 7, no text prints it, and document 01's example of it is served.
 use Rattle.std.specs.Prelude.{◌≡◌, refl, Bool, true, false, not, ◌&&◌, cond, ◌≢◌, ◌⊎◌, eqb, ltb, pos, length, get_or, drop, Ok, Err}
 use Rattle.std.specs.Prelude as std
-use Rattle.std.proofs.Common.{ap, inl, inr, arith, length-append, ltb-true, ltb-false, eq-eqb}
+use Rattle.std.proofs.Common.{ap, inl, inr, arith, length-append, ltb-true, ltb-false, eq-eqb, eqb-true}
 use Rattle.std.proofs.lemmas.Bool.{eqb-false}
 use mathlib.Core.List.{List, [], ◌∷◌, ◌++◌, map, flat_map, append_assoc, append-nil}
 use Rattle.std.proofs.Math.Option.{Option, none, some}
@@ -25,6 +25,7 @@ use Rattle.model.specs.declared.Rate.TheVariants.{Chance, Unrated}
 use Rattle.model.specs.declared.Rates.{Rates}
 use Rattle.model.specs.declared.Exposure.{Exposure}
 use Rattle.model.specs.declared.BookingAnswer.{BookingAnswer}
+use Rattle.model.specs.declared.Refusal.{Refusal}
 use Rattle.model.specs.Lists.{below, keep, first, any_of, all_of}
 use Rattle.model.specs.Values.{Outcome, refusal_number, refusal_of, same_part, part_code, outcome_number, outcome_of, part_values, word_values, report_values, file_values}
 use Rattle.model.specs.Plant.{parts, health_of_kind, next, up, arc, connected}
@@ -169,7 +170,7 @@ use Rattle.model.specs.Text.{
 use Rattle.model.specs.CutText.{count_line, cut_text, latest_ring, printed_cut_sets}
 use Rattle.model.specs.ExposureText.{hex_digits, bits_text, exposure_text, answered_text, exposure_line, bus_exposure_line, exposure_lines, printed_exposures}
 use Rattle.model.specs.ScanText.{sheet_room, scan_text}
-use Rattle.model.specs.Laws.Refusals.{number_of_refusal, refusal_not_7}
+use Rattle.model.specs.Laws.Refusals.{number_of_refusal}
 use Rattle.model.specs.Laws.Numbers.{report_number}
 use Rattle.model.specs.Laws.Tests.{contra, dec, by_cond}
 use Rattle.model.specs.Laws.Digits.{hex_length}
@@ -291,26 +292,47 @@ cancel_never state v = more 7 (bad_record state) 9 _ refl (more 7 (not (is_live 
 
 -- ---- the answers
 
--- no refusal is numbered 7, so that an outcome's number is 7 only where a call's own refusal is
-never_numbered : (o : Outcome) → outcome_number o ≢ 7
-never_numbered (Ok _) = served
-never_numbered (Err r) = refusal_not_7 r
+-- a refusal's number is 7 only where a call's own is
+numbered_never : (j : ℕ) → j ≢ 7 → refusal_number (refusal_of j) ≢ 7
+unfolding refusal_of
+numbered_never j p =
+    one (eqb j 1) _ _ (λ t. other 7 1 refl)
+    (λ t. one (eqb j 2) _ _ (λ t. other 7 2 refl)
+    (λ t. one (eqb j 3) _ _ (λ t. other 7 3 refl)
+    (λ t. one (eqb j 4) _ _ (λ t. other 7 4 refl)
+    (λ t. one (eqb j 5) _ _ (λ t. other 7 5 refl)
+    (λ t. one (eqb j 6) _ _ (λ t. other 7 6 refl)
+    (λ t. one (eqb j 7) _ _ (λ t. absurd (p (eqb-true j 7 t)))
+    (λ t. one (eqb j 8) _ _ (λ t. other 7 8 refl)
+    (λ t. one (eqb j 9) _ _ (λ t. other 7 9 refl)
+    (λ t. one (eqb j 10) _ _ (λ t. other 7 10 refl)
+    (λ t. one (eqb j 11) _ _ (λ t. other 7 11 refl)
+    (λ t. one (eqb j 12) _ _ (λ t. other 7 12 refl)
+    (λ t. one (eqb j 13) _ _ (λ t. other 7 13 refl)
+    (λ t. one (eqb j 14) _ _ (λ t. other 7 14 refl)
+    (λ t. one (eqb j 15) _ _ (λ t. other 7 15 refl)
+    (λ t. other 7 16 refl)))))))))))))))
+  where
+    one : (met : Bool) (r s : Refusal) → (met ≡ true → refusal_number r ≢ 7) → (met ≡ false → refusal_number s ≢ 7)
+        → refusal_number (cond met r s) ≢ 7
+    one met r s f g = by_cond (λ x. refusal_number x ≢ 7) met f g
 
 outcome_never : (j : ℕ) → j ≢ 7 → outcome_number (outcome_of j) ≢ 7
-outcome_never j p = never_numbered (outcome_of j)
+unfolding outcome_of
+outcome_never j p = by_cond (λ o. outcome_number o ≢ 7) (eqb j 0) (λ t. served) (λ t. numbered_never j p)
 
 reply_never : (j : ℕ) (ring kept : Ring) (buffer : List ℕ) → j ≢ 7 → outcome_number (reply_by j ring kept buffer).answer.outcome ≢ 7
 unfolding served_reply served_answer refused_reply refused_answer
 reply_never j ring kept buffer p =
-    by_cond (λ (x : Reply). outcome_number x.answer.outcome ≢ 7) (eqb j 0) (λ t. served) (λ t. refusal_not_7 (refusal_of j))
+    by_cond (λ (x : Reply). outcome_number x.answer.outcome ≢ 7) (eqb j 0) (λ t. served) (λ t. numbered_never j p)
 
 by_never : (j : ℕ) (state kept : RingState) (buffer : List ℕ) → j ≢ 7 → outcome_number (state_by j state kept buffer).answer.outcome ≢ 7
 unfolding served_state refused_state
 by_never j state kept buffer p =
-    by_cond (λ (x : StateReply). outcome_number x.answer.outcome ≢ 7) (eqb j 0) (λ t. served) (λ t. refusal_not_7 (refusal_of j))
+    by_cond (λ (x : StateReply). outcome_number x.answer.outcome ≢ 7) (eqb j 0) (λ t. served) (λ t. numbered_never j p)
 
 booking_never : (j : ℕ) (state : RingState) (load : Load) → j ≢ 7 → outcome_number (booking_by j state load).outcome ≢ 7
-booking_never j state load p = by_cond (λ (x : BookingAnswer). outcome_number x.outcome ≢ 7) (eqb j 0) (λ t. served) (λ t. refusal_not_7 (refusal_of j))
+booking_never j state load p = by_cond (λ (x : BookingAnswer). outcome_number x.outcome ≢ 7) (eqb j 0) (λ t. served) (λ t. numbered_never j p)
 
 named_never : (o : Option Part) → (part_values (part_answer o)).0 ≢ 7
 unfolding part_answer
@@ -324,7 +346,7 @@ word_never (some w) = served
 
 file_answer_never : (f : List ℕ) → (file_values (file_answer f)).0 ≢ 7
 unfolding file_answer
-file_answer_never f = by_cond (λ a. (file_values a).0 ≢ 7) (eqb (file_refusal f) 0) (λ t. served) (λ t. refusal_not_7 (refusal_of (file_refusal f)))
+file_answer_never f = by_cond (λ a. (file_values a).0 ≢ 7) (eqb (file_refusal f) 0) (λ t. served) (λ t. numbered_never (file_refusal f) (file_never f))
 
 at_never : (n : ℕ) (cs vs : List ℕ) (i : ℕ) → (report_values (report_at n cs vs i)).0 ≢ 7
 unfolding report_at report_answer
@@ -344,7 +366,7 @@ list_answer_never state bus buffer = go (cut_sets_refusal state bus (length buff
   where
     go : (j : ℕ) → j ≢ 7
         → outcome_number (cond (eqb j 0) (served_cut_sets (ring_cut_sets state.ring bus) buffer) (refused_cut_sets j buffer)).answer.outcome ≢ 7
-    go j p = by_cond (λ (x : CutSetsReply). outcome_number x.answer.outcome ≢ 7) (eqb j 0) (λ t. served) (λ t. refusal_not_7 (refusal_of j))
+    go j p = by_cond (λ (x : CutSetsReply). outcome_number x.answer.outcome ≢ 7) (eqb j 0) (λ t. served) (λ t. numbered_never j p)
 
 -- ---- the texts
 
