@@ -9,7 +9,6 @@ use Rattle.model.specs.declared.Booking.{Booking}
 use Rattle.model.specs.declared.Load.{Load}
 use Rattle.model.specs.declared.Ring.{Ring}
 use Rattle.model.specs.declared.RingState.{RingState}
-use Rattle.model.specs.declared.Outcome.{Outcome}
 use Rattle.model.specs.declared.BookingAnswer.{BookingAnswer}
 use Rattle.model.specs.declared.Choice.{Choice}
 use Rattle.model.specs.declared.Choice.TheVariants as choice
@@ -17,7 +16,7 @@ use Rattle.model.specs.declared.BusChoice.{BusChoice}
 use Rattle.model.specs.declared.Feed.{Feed}
 use Rattle.model.specs.declared.Feed.TheVariants as feed
 use Rattle.model.specs.Lists.{below, keep, any_of, sum, is_none}
-use Rattle.model.specs.Values.{number, same_part, part_code, outcome_number, choice_source, choice_letter, choice_at}
+use Rattle.model.specs.Values.{number, same_part, part_code, Outcome, outcome_number, choice_source, choice_letter, choice_at}
 use Rattle.model.specs.Plant.{PartCommands, largest, parts, bus_feed}
 use Rattle.model.specs.Choosing.{plan, commands, choice_of}
 use Rattle.model.specs.Sheet.{opening, closing, sheet}

@@ -1,5 +1,5 @@
 -- A controller that fails the test of a claim does not meet the demand: of each claim, by its field and no other.
-use Rattle.std.specs.Prelude.{◌≡◌, Bool, ◌&&◌, ◌||◌, ◌≢◌, ◌⊎◌, ◌↔◌, ltb, eqb, length, take}
+use Rattle.std.specs.Prelude.{◌≡◌, Bool, ◌&&◌, ◌||◌, ◌≢◌, ◌⊎◌, ◌↔◌, ltb, eqb, length, take, Ok, Err}
 use Rattle.std.proofs.Math.Path.{refl, ap}
 use Rattle.std.proofs.Common.{sym, ◌∙◌, inl, inr, arith, eq-eqb, ltb-true, lt-ltb}
 use Rattle.std.proofs.Math.Bool.{true, false, not, beq}
@@ -15,12 +15,11 @@ use Rattle.model.specs.declared.RingState.{RingState}
 use Rattle.model.specs.declared.Choice.{Choice}
 use Rattle.model.specs.declared.Choice.TheVariants as choice
 use Rattle.model.specs.declared.BookingAnswer.{BookingAnswer}
-use Rattle.model.specs.declared.Outcome.{Outcome}
-use Rattle.model.specs.declared.Outcome.TheVariants as outcome
+use Rattle.model.specs.declared.Refusal.{Refusal}
 use Rattle.model.specs.declared.Feed.{Feed}
 use Rattle.model.specs.declared.Feed.TheVariants as feed
 use Rattle.model.specs.Lists.{below, first, any_of, sum, is_none, ◌∈◌, RisingBy, empty, more}
-use Rattle.model.specs.Values.{part_code, same_part, outcome_number, choice_source, choice_at}
+use Rattle.model.specs.Values.{part_code, same_part, Outcome, refusal_number, outcome_number, choice_source, choice_at}
 use Rattle.model.specs.Plant.{PartHealth, largest, InRing, parts, bus_feed, Reaches}
 use Rattle.model.specs.Priority.{Path}
 use Rattle.model.specs.Choosing.{permitted, choose, chosen, plan, commands, choice_of}
@@ -90,7 +89,7 @@ use Rattle.demands.specs.Statements.Demand3.{
 use Rattle.theory.proofs.Theorems.Closing.{closing_at}
 use Rattle.demands.proofs.Proofs.Operations.{opening_at}
 use Rattle.demands.proofs.Proofs.Standing.{same_phases}
-use Rattle.demands.proofs.Proofs.Answering.{Judged, met, fine, judge_start, judge_call, CallFine}
+use Rattle.demands.proofs.Proofs.Answering.{served_number, Judged, met, fine, judge_start, judge_call, CallFine}
 use Rattle.demands.proofs.Proofs.Booking.{booking_number, judge_booking}
 use Rattle.demands.specs.Statements.Demand2.{FirstPermitted, found, not_found, earlier, Needed, ToOpen, ToClose, Serves, Demand2}
 use Rattle.demands.proofs.Theorems.Demand2.{earlier_chosen, needed_commanded}
@@ -210,10 +209,6 @@ unfolding on_phases
 some_phases none f e = contra e refl
 some_phases (some ph) f e = (ph, refl, e)
 
--- no outcome is both served and refused
-not_served : (o : Outcome) {k : ℕ} → served_outcome o ≡ true → o ≡ outcome.Refused k → ⊥
-not_served o e q = contra (rw q at e) refl
-
 -- ---- a call is served or refused as it must be
 
 -- refused, and something else
@@ -221,8 +216,8 @@ refused_too : (o : Outcome) (b : Bool) → not (served_outcome o) && b ≡ true 
 refused_too o b e = let t = both (not (served_outcome o)) b e in (not-true (served_outcome o) t.0, t.1)
 
 -- the outcome of a call whose number is k
-module _ {Met : ℕ → Type 0} {Fine : Type 0} {o : Outcome} where
-  only_sound : {k : ℕ} → ((i : ℕ) → o ≡ outcome.Refused i → Met i) → Judged Met Fine k → refused_in_vain k o ≡ true → ⊥
+module _ {Met : ℕ → Type 0} {Fine : Type 0} (o : Outcome) where
+  only_sound : {k : ℕ} → ((r : Refusal) → o ≡ Err r → Met (refusal_number r)) → Judged Met Fine k → refused_in_vain k o ≡ true → ⊥
   unfolding refused_in_vain
   only_sound {k} only j e = let t = refused_too o (differ (outcome_number o) k) e in go o refl t
     where
@@ -231,12 +226,12 @@ module _ {Met : ℕ → Type 0} {Fine : Type 0} {o : Outcome} where
       by (fine free f) m y = absurd (free m y)
 
       go : (p : Outcome) → o ≡ p → (served_outcome o ≡ false) × (differ (outcome_number o) k ≡ true) → ⊥
-      go outcome.Served q t = contra (rw q) t.0
-      go (outcome.Refused m) q t = unequal (outcome_number o) k (rw q (by j m (only m q))) t.1
+      go (Ok _) q t = contra (rw q) t.0
+      go (Err r) q t = unequal (outcome_number o) k (rw q (by j (refusal_number r) (only r q))) t.1
 
-  always_sound : {k : ℕ} → ((i : ℕ) → Met i → o ≡ outcome.Refused i) → Judged Met Fine k → not_refused k o ≡ true → ⊥
+  always_sound : {k : ℕ} → ((i : ℕ) → Met i → outcome_number o ≡ i) → Judged Met Fine k → not_refused k o ≡ true → ⊥
   unfolding not_refused
-  always_sound always (met k l m one) e = unequal (outcome_number o) k (rw (always k m)) (both (differ k 0) _ e).1
+  always_sound always (met k l m one) e = unequal (outcome_number o) k (always k m) (both (differ k 0) _ e).1
   always_sound always (fine free f) e = contra e refl
 
 -- .. and the record that it gives where it is refused
@@ -275,7 +270,7 @@ in_range : (c : Controller) (n : ℕ) (buffer : List ℕ)
 in_range c n buffer a s = go (dec_lt largest n)
   where
     go : (largest < n) ⊎ (n ≤ largest) → n ≤ largest
-    go (inl l) = absurd (not_served (c.start n buffer).answer.outcome s (a.always 2 (too_large l)))
+    go (inl l) = absurd (omega (arith, served_number (c.start n buffer).answer.outcome s, a.always 2 (too_large l)))
     go (inr l) = l
 
 -- the refusal due to a call is the one that meets it
@@ -588,8 +583,8 @@ module _ (c : Controller) (i : Instance) (d : Demand3 c) where
   -- a controller that meets the demand fails no test of its claims
   pub refutes3 : (claim : Claim3) → fails3 c i claim ≡ true → ⊥
   unfolding fails3 start_of first_reply start_due clash_in_first clash_in_second
-  refutes3 claim.start_only e = only_sound start_claimed.only (judge_start N (length i.lending)) e
-  refutes3 claim.start_always e = always_sound start_claimed.always (judge_start N (length i.lending)) e
+  refutes3 claim.start_only e = only_sound (c.start N i.lending).answer.outcome start_claimed.only (judge_start N (length i.lending)) e
+  refutes3 claim.start_always e = always_sound (c.start N i.lending).answer.outcome start_claimed.always (judge_start N (length i.lending)) e
   refutes3 claim.start_record_kept e = record_sound (c.start N i.lending).answer.outcome start_claimed.record_kept e
   refutes3 claim.start_buffer_kept e = buffer_sound start_claimed e
   refutes3 claim.start_choices_dark e = choices_sound start_claimed e
@@ -597,10 +592,10 @@ module _ (c : Controller) (i : Instance) (d : Demand3 c) where
   refutes3 claim.start_length_kept e = length_sound start_claimed e
   refutes3 claim.only e =
       let t = at_call_lem c i (λ W reply. refused_in_vain (due N W.plant i.call) reply.answer.outcome) e in
-      only_sound (claimed t.1).only (judged t.1) t.2
+      only_sound (reply_in c i t.0).answer.outcome (claimed t.1).only (judged t.1) t.2
   refutes3 claim.always e =
       let t = at_call_lem c i (λ W reply. not_refused (due N W.plant i.call) reply.answer.outcome) e in
-      always_sound (claimed t.1).always (judged t.1) t.2
+      always_sound (reply_in c i t.0).answer.outcome (claimed t.1).always (judged t.1) t.2
   refutes3 claim.record_kept e =
       let t = at_call_lem c i (λ W reply. record_changed W.state reply.answer.outcome reply.answer.state) e in
       record_sound (reply_in c i t.0).answer.outcome (claimed t.1).record_kept t.2
@@ -702,10 +697,10 @@ module _ (c : Controller) (i : Instance) (d : Demand3 c) where
   refutes3 claim.sums e = let t = at_last_lem c i other_sum e in sums_sound (load_in t.1) t.2
   refutes3 claim.booking_only e =
       let t = at_booking_lem c i (λ W answer. refused_in_vain (booking_number N W.history i.booking) answer.outcome) e in
-      only_sound (booking_claimed t.1).only (judge_booking i.booking) t.2
+      only_sound (answer_in c i t.0).outcome (booking_claimed t.1).only (judge_booking i.booking) t.2
   refutes3 claim.booking_always e =
       let t = at_booking_lem c i (λ W answer. not_refused (booking_number N W.history i.booking) answer.outcome) e in
-      always_sound (booking_claimed t.1).always (judge_booking i.booking) t.2
+      always_sound (answer_in c i t.0).outcome (booking_claimed t.1).always (judge_booking i.booking) t.2
   refutes3 claim.booking_record_kept e =
       let t = at_booking_lem c i (λ W answer. record_changed W.state answer.outcome answer.state) e in
       record_sound (answer_in c i t.0).outcome (booking_claimed t.1).record_kept t.2
@@ -866,10 +861,10 @@ module _ (c : Controller) (i : Instance) (d : Demand2 c) where
   -- a controller that meets the demand fails no test of its claims
   pub refutes2 : (claim : Claim2) → fails2 c i claim ≡ true → ⊥
   unfolding fails2 start_of start_due
-  refutes2 claim.start_answered e = only_sound starting.only (judge_start M (length i.lending)) e
+  refutes2 claim.start_answered e = only_sound (c.start M i.lending).answer.outcome starting.only (judge_start M (length i.lending)) e
   refutes2 claim.call_answered e =
       let t = at_call_lem c i (λ W reply. refused_in_vain (due M W.plant i.call) reply.answer.outcome) e in
-      only_sound (answering t.1).only (judging t.1) t.2
+      only_sound (reply_in c i t.0).answer.outcome (answering t.1).only (judging t.1) t.2
   refutes2 claim.start_path e =
       let t = both (is_served (c.start M i.lending)) _ e in path_sound (d.start_serves M i.lending t.0) t.1
   refutes2 claim.call_path e =

@@ -2,17 +2,16 @@
 -- controller that meets demand 3: a list with bookings and cancellations leads to the plant and to what is shown that it leads to without them.
 use Rattle.std.specs.Prelude.{◌≡◌, Bool, true, false, cond, ◌⊎◌, List, ℕ, ◌≤◌, eqb}
 use Rattle.std.proofs.Math.Path.{refl}
-use Rattle.std.proofs.Common.{sym, ◌∙◌, ap, inl, inr}
+use Rattle.std.proofs.Common.{sym, ◌∙◌, ap, inl, inr, arith}
 use Rattle.std.proofs.Math.Option.{some}
 use Rattle.model.specs.declared.RingState.{RingState}
-use Rattle.model.specs.declared.Outcome.{Outcome}
-use Rattle.model.specs.declared.Outcome.TheVariants as outcome
+use Rattle.model.specs.Values.{refusal_number}
 use Rattle.model.specs.Refusals.{first_met}
 use Rattle.model.specs.States.{told_state, reckoned, bad_record, state_refusal, StateReply, refused_state, served_state, served_by, refused_by, state_by}
 use Rattle.model.specs.CutSets.{cut_sets_refusal, cut_sets_reply}
 use Rattle.model.specs.Plant.{smallest, largest}
 use Rattle.model.specs.Laws.Tests.{contra, dec}
-use Rattle.model.specs.Laws.Refusals.{good_size}
+use Rattle.model.specs.Laws.Refusals.{good_size, refusal_positive}
 use Rattle.demands.specs.Statements.Demand3.{
   Controller,
   PlantState,
@@ -29,7 +28,6 @@ use Rattle.demands.specs.Statements.Demand3.{
   answer_to,
   words,
   lent,
-  served_outcome,
   is_served,
   is_booked,
   World,
@@ -48,7 +46,7 @@ use Rattle.demands.specs.Statements.Demand3.{
 use Rattle.demands.specs.Statements.Records.{Arrays}
 use Rattle.demands.specs.Statements.Bookings.{SwitchAlike, unbooked, SeenAlike}
 use Rattle.demands.specs.Controller.{controller}
-use Rattle.demands.proofs.Proofs.Answering.{ring_good, call_refusal, call_reply_lem}
+use Rattle.demands.proofs.Proofs.Answering.{served_number, refusal_in, ring_good, call_refusal, call_reply_lem}
 use Rattle.demands.proofs.Proofs.Standing.{same_phases, stands_good, booked_is, unbooked_is, booking_stands}
 use Rattle.demands.proofs.Theorems.Records.{good_stands}
 
@@ -118,11 +116,6 @@ module _ (state : RingState) (arrays : Arrays state) (good : bad_record state �
 
 -- ---- a list without its bookings and cancellations
 
--- a reply that is not served is refused with a number
-refusal_of : (o : Outcome) → served_outcome o ≡ false → (k : ℕ) × (o ≡ outcome.Refused k)
-refusal_of outcome.Served e = contra refl e
-refusal_of (outcome.Refused k) e = (k, refl)
-
 -- two calls that the same refusals meet are served alike
 serve_alike : {Met : ℕ → Type 0} {kept left : RingState} {buffer : List ℕ} {a b : StateReply} → Answered Met kept buffer a
     → Answered Met left buffer b → is_served a ≡ true → is_served b ≡ true
@@ -131,8 +124,9 @@ serve_alike {a = a} {b = b} p q e = go (dec (is_served b))
     go : (is_served b ≡ true) ⊎ (is_served b ≡ false) → is_served b ≡ true
     go (inl f) = f
     go (inr f) =
-        let t = refusal_of b.answer.outcome f in
-        contra e (ap served_outcome (p.always t.0 (q.only t.0 t.1)))
+        let t = refusal_in b.answer.outcome f in
+        let met = p.always (refusal_number t.0) (q.only t.0 t.1) in
+        absurd (omega (arith, refusal_positive t.0, served_number a.answer.outcome e, met))
 
 -- two replies that are document 01's for one plant have one sheet's phases and the same choices
 phases_alike : {n : ℕ} {P : PlantState} {a b : StateReply} {ph : Phases} → AsChosen n P a → AsChosen n P b → decode n a.buffer ≡ some ph

@@ -19,7 +19,7 @@ use Rattle.model.specs.Lists.{any_of, ◌∈◌}
 use Rattle.model.specs.Values.{index, same_part, choice_source}
 use Rattle.model.specs.Plant.{PartHealth, PartCommands, smallest, largest, generator_breaker, bus_breaker, stuck_closed, bus_feed, Reaches}
 use Rattle.model.specs.Priority.{Path}
-use Rattle.model.specs.Choosing.{commands, choices, choice_of, plan}
+use Rattle.model.specs.Choosing.{commands, choice_of, plan}
 use Rattle.model.specs.Sheet.{opening, closing}
 use Rattle.model.specs.Reports.{places, blank_ring}
 use Rattle.model.specs.Bookings.{total_watts, booking_source, watts_of}

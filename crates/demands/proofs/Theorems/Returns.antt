@@ -1,7 +1,7 @@
 -- Document 02, Notes 3 and 7: a generator that returns. Of every controller that meets demand 3: nothing starts or closes but by its own
 -- operation, and a dark bus is judged by the health after the latest word. Of ours: words that repeat the present health or lock change
 -- nothing, and a part that fails and returns, or is locked and unlocked, leaves the very record and the choices from before.
-use Rattle.std.specs.Prelude.{◌≡◌, Bool, not, ◌&&◌, ◌⊎◌, ◌↔◌, ℕ, zero, suc, ◌≤◌, ◌<◌}
+use Rattle.std.specs.Prelude.{◌≡◌, Bool, not, ◌&&◌, ◌⊎◌, ◌↔◌, ℕ, zero, suc, ◌≤◌, ◌<◌, Ok}
 use Rattle.std.proofs.Math.Path.{refl, sym, ap}
 use Rattle.std.proofs.Common.{◌∙◌, inl, inr, arith}
 use Rattle.std.proofs.Math.Bool.{true, false, cond}
@@ -17,7 +17,6 @@ use Rattle.model.specs.declared.Report.{Report}
 use Rattle.model.specs.declared.Ring.{Ring}
 use Rattle.model.specs.declared.RingState.{RingState}
 use Rattle.model.specs.declared.StateAnswer.{StateAnswer}
-use Rattle.model.specs.declared.Outcome.TheVariants.{Served}
 use Rattle.model.specs.declared.Choice.TheVariants.{Dark}
 use Rattle.model.specs.Lists.{any_of, ◌∈◌}
 use Rattle.model.specs.Values.{number, index, same_part}
@@ -288,7 +287,7 @@ module _ (state : RingState) (arrays : Arrays state) (good : bad_record state �
 
   -- the answer of a call that leaves the record as it is
   abbrev as_it_was : StateAnswer
-  as_it_was = record { outcome = Served; state = state; choices = called_for ring }
+  as_it_was = record { outcome = Ok tt; state = state; choices = called_for ring }
 
   -- a ring that is told what it holds is the same
   told_same : (r : Report) → Repeats H r → told ring r ≡ ring
@@ -374,7 +373,7 @@ module _ (state : RingState) (arrays : Arrays state) (good : bad_record state �
   unfolding served_state reckoned with_figures with_plan planned
   replanned_same S n_same same booked_same live_same =
       rw (n_same, same, booked_same, live_same)
-      (ap (λ x. record { outcome = Served; state = x; choices = called_for ring }) (plan_kept state good arrays))
+      (ap (λ x. record { outcome = Ok tt; state = x; choices = called_for ring }) (plan_kept state good arrays))
 
   -- a word, and one that undoes it: the very record, and the choices that it calls for
   module _ (done undone : Report) (back : SameHealth largest H (reported (reported H done) undone)) where

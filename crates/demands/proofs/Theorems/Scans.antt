@@ -1,5 +1,5 @@
 -- Document 02, Note 2: a scan beside the single steps of its reports.
-use Rattle.std.specs.Prelude.{◌≡◌, Bool, true, not, ◌&&◌, ◌≢◌, ◌⊎◌, List, [], ◌∷◌, ◌++◌, ℕ, zero, suc, ◌≤◌, ◌<◌, length, get_or, take}
+use Rattle.std.specs.Prelude.{◌≡◌, Bool, true, not, ◌&&◌, ◌≢◌, ◌⊎◌, List, [], ◌∷◌, ◌++◌, ℕ, zero, suc, ◌≤◌, ◌<◌, length, get_or, take, Ok}
 use Rattle.std.proofs.Math.Path.{refl, ap}
 use Rattle.std.proofs.Common.{sym, ◌∙◌, inl, inr, arith}
 use Rattle.std.proofs.Math.Bool.{false}
@@ -11,7 +11,6 @@ use Rattle.model.specs.declared.Commands.{Commands}
 use Rattle.model.specs.declared.Ring.{Ring}
 use Rattle.model.specs.declared.RingState.{RingState}
 use Rattle.model.specs.declared.BusChoice.{BusChoice}
-use Rattle.model.specs.declared.Outcome.TheVariants as outcome
 use Rattle.model.specs.Plant.{PartHealth, PartCommands, parts, InRing}
 use Rattle.model.specs.Choosing.{plan, commands}
 use Rattle.model.specs.Sheet.{opening, sequence, closing, sheet_of, sheet, written}
@@ -248,7 +247,7 @@ still ring good =
 pub empty_scan : (state : RingState) → Arrays state → bad_record state ≡ false → (s : Scan) → s.count ≡ 0 → (buffer : List ℕ)
     → 2 ≤ length buffer
     → state_scan state s buffer ≡ record {
-      answer = record { outcome = outcome.Served; state = state; choices = called_for state.ring };
+      answer = record { outcome = Ok tt; state = state; choices = called_for state.ring };
       buffer = written (0 ∷ 0 ∷ []) buffer;
     }
 unfolding state_scan state_refusal scan_refusal first_met count_above first_refusal told_state told_all sheet_refusal too_short served_state

@@ -3,7 +3,7 @@
 -- call was served, and the bytes of the lent buffers after served calls; never a record. So is what history knows of bookings.
 -- Document 01, "The plant beside the list", and document 02, Notes 2 to 7. A stroke is an operation here, a halt an interruption, a wave a
 -- phase.
-use Rattle.std.specs.Prelude.{◌≡◌, Bool, true, false, not, ◌&&◌, cond, ◌≢◌, ℕ, zero, suc, ◌+◌, ◌*◌, ◌≤◌, ◌<◌, leb, eqb, length, get_or, take, drop}
+use Rattle.std.specs.Prelude.{◌≡◌, Bool, true, false, not, ◌&&◌, cond, ◌≢◌, ℕ, zero, suc, ◌+◌, ◌*◌, ◌≤◌, ◌<◌, leb, eqb, length, get_or, take, drop, Ok, Err}
 use mathlib.Core.List.{List, [], ◌∷◌, ◌++◌, map, Permᴰ}
 use Rattle.std.proofs.Math.Option.{Option, none, some}
 use Rattle.model.specs.declared.Part.{Part}
@@ -19,12 +19,11 @@ use Rattle.model.specs.declared.BookingAnswer.{BookingAnswer}
 use Rattle.model.specs.declared.Choice.{Choice}
 use Rattle.model.specs.declared.Choice.TheVariants as choice
 use Rattle.model.specs.declared.BusChoice.{BusChoice}
-use Rattle.model.specs.declared.Outcome.{Outcome}
-use Rattle.model.specs.declared.Outcome.TheVariants as outcome
+use Rattle.model.specs.declared.Refusal.{Refusal}
 use Rattle.model.specs.declared.Feed.{Feed}
 use Rattle.model.specs.declared.Feed.TheVariants as feed
 use Rattle.model.specs.Lists.{keep, any_of, sum, ◌∈◌}
-use Rattle.model.specs.Values.{number, index, same_part, choice_source, choice_at}
+use Rattle.model.specs.Values.{number, index, same_part, Outcome, refusal_number, outcome_number, choice_source, choice_at}
 use Rattle.model.specs.Plant.{PartHealth, PartCommands, smallest, largest, generator, bus_feed, InRing, Reaches}
 use Rattle.model.specs.Choosing.{plan, commands, choices}
 use Rattle.model.specs.Sheet.{opening, closing, sheet}
@@ -203,8 +202,8 @@ lent (scan s buffer) = buffer
 
 -- "whether each call was served", by its outcome
 abbrev pub served_outcome : Outcome → Bool
-served_outcome outcome.Served = true
-served_outcome (outcome.Refused k) = false
+served_outcome (Ok _) = true
+served_outcome (Err r) = false
 
 -- "whether each call was served"
 abbrev pub is_served : StateReply → Bool
@@ -473,17 +472,18 @@ pub data BookingMeets (n : ℕ) (h : History) : BookingCall → ℕ → Type 0 w
   no_place : {b : Booking} → OnBus n b → InRange b → (Live h b.number → ⊥) → 64 ≤ length h.live → BookingMeets n h (book b) 14
   not_live : {v : ℕ} → (Live h v → ⊥) → BookingMeets n h (cancel v) 13
 
--- what is claimed of every booking and cancellation, by the refusals that meet it and the record that it gives where it is refused
+-- what is claimed of every booking and cancellation, by the refusals that meet it and the record that it gives where it is refused; no refusal
+-- that meets a call is numbered 0, as a served call is
 pub record BookingAnswered (Met : ℕ → Type 0) (kept : RingState) (answer : BookingAnswer) : Type 0 where
-  pub only : (k : ℕ) → answer.outcome ≡ outcome.Refused k → Met k
-  pub always : (k : ℕ) → Met k → answer.outcome ≡ outcome.Refused k
+  pub only : (r : Refusal) → answer.outcome ≡ Err r → Met (refusal_number r)
+  pub always : (k : ℕ) → Met k → outcome_number answer.outcome ≡ k
   pub record_kept : is_booked answer ≡ false → answer.state ≡ kept
 
 -- what is claimed of every call with orders, by the refusals that meet it, the record that it gives where it is refused, and the buffer lent
 pub record Answered (Met : ℕ → Type 0) (kept : RingState) (buffer : List ℕ) (reply : StateReply) : Type 0 where
   -- "a call is refused exactly when a numbered refusal meets it", with its number
-  pub only : (k : ℕ) → reply.answer.outcome ≡ outcome.Refused k → Met k
-  pub always : (k : ℕ) → Met k → reply.answer.outcome ≡ outcome.Refused k
+  pub only : (r : Refusal) → reply.answer.outcome ≡ Err r → Met (refusal_number r)
+  pub always : (k : ℕ) → Met k → outcome_number reply.answer.outcome ≡ k
   -- "the record as handed in and the buffer untouched", "The choices of a refused start or step .. are all dark"; "a refused call
   -- that they add is answered as a refused step" (document 02)
   pub record_kept : is_served reply ≡ false → reply.answer.state ≡ kept
