@@ -1,70 +1,26 @@
 -- The right design is the controller: its answers to every call are those of the definitions.
-use Rattle.std.specs.Prelude.{◌≡◌, refl, Bool, true, false, not, ◌||◌, cond, ◌⊎◌, ℕ, ltb, eqb, length}
+use Rattle.std.specs.Prelude.{◌≡◌, refl, Bool, true, false, not, ◌||◌, cond, ◌⊎◌, ℕ, eqb}
 use Rattle.std.proofs.Common.{ap, inl, inr}
-use Rattle.std.specs.Bool.{beq}
-use mathlib.Core.List.{List, [], ◌∷◌, ◌++◌, flat_map}
+use mathlib.Core.List.{List}
 use Rattle.std.proofs.Math.Option.{Option, none, some}
-use Rattle.model.specs.declared.Part.{Part}
 use Rattle.model.specs.declared.Report.{Report}
 use Rattle.model.specs.declared.Scan.{Scan}
 use Rattle.model.specs.declared.Booking.{Booking}
 use Rattle.model.specs.declared.Load.{Load}
 use Rattle.model.specs.declared.Ring.{Ring}
 use Rattle.model.specs.declared.RingState.{RingState}
-use Rattle.model.specs.declared.Outcome.TheVariants as outcome
-use Rattle.model.specs.declared.Choice.TheVariants as choice
 use Rattle.model.specs.declared.BusChoice.{BusChoice}
-use Rattle.model.specs.declared.BookingAnswer.{BookingAnswer}
-use Rattle.model.specs.Lists.{below, keep, any_of}
-use Rattle.model.specs.Values.{same_part}
-use Rattle.model.specs.Plant.{PartHealth, PartCommands, largest, parts}
+use Rattle.model.specs.Lists.{below, keep}
 use Rattle.model.specs.Priority.{Path, path_parts}
-use Rattle.model.specs.Choosing.{on_paths, plan, commands, choice_of, choices}
-use Rattle.model.specs.Sheet.{opening, first_occurrences, parts_of, sequence, closing, sheet_of, sheet, written}
-use Rattle.model.specs.Reports.{places, health_of, commands_of, command_places, blank_ring, planned, called_for, with_plan}
-use Rattle.model.specs.Refusals.{
-  first_met,
-  or_else,
-  size_outside,
-  health_outside,
-  active_above,
-  locked_above,
-  unplanned,
-  bad_ring,
-  bus_outside,
-  count_above,
-  too_short,
-  next_sheet,
-  report_conditions,
-  sheet_refusal,
-  start_refusal,
-  step_refusal,
-}
-use Rattle.model.specs.Scans.{scan_reports, told_all, first_refusal, scan_refusal}
-use Rattle.model.specs.Bookings.{live_bookings, with_figures, with_booking, without_booking, watts_outside, is_live, no_place, bad_load}
-use Rattle.model.specs.States.{
-  unloaded,
-  told_state,
-  reckoned,
-  bad_record,
-  state_refusal,
-  StateReply,
-  served_state,
-  served_by,
-  refused_by,
-  state_start,
-  state_step,
-  state_scan,
-  book_refusal,
-  cancel_refusal,
-  booking_by,
-  book_answer,
-  cancel_answer,
-}
+use Rattle.model.specs.Choosing.{on_paths, plan, commands, choices}
+use Rattle.model.specs.Sheet.{opening, first_occurrences, parts_of, sequence, closing, sheet_of, sheet}
+use Rattle.model.specs.Reports.{places, health_of, commands_of, blank_ring, planned, called_for, with_plan}
+use Rattle.model.specs.Refusals.{first_met, or_else, unplanned, bad_ring, next_sheet, start_refusal, step_refusal}
+use Rattle.model.specs.Scans.{told_all, scan_refusal}
+use Rattle.model.specs.Bookings.{with_figures, with_booking, without_booking, bad_load}
+use Rattle.model.specs.States.{unloaded, told_state, reckoned, bad_record, state_refusal, served_state, served_by, state_start, state_step, state_scan, book_refusal, cancel_refusal, booking_by, book_answer, cancel_answer}
 use Rattle.model.specs.Laws.Tests.{dec}
 use Rattle.model.specs.Laws.Lists.{flat_ext}
-use Rattle.demands.specs.Statements.Demand3.{Controller}
-use Rattle.demands.specs.Statements.Demand2.{earlier}
 use Rattle.demands.specs.Controller.{controller}
 use Rattle.demands.proofs.Theorems.Demand2.{earlier_chosen}
 use Rattle.designs.specs.Designs.{parts_by, design_commands, design_sheet, design_choices, design_reckoned, design_served, design_bad, design_start, design_step, design_scan, design_booking, design_book, design_cancel, design_controller, right_order, right}

@@ -2,7 +2,7 @@
 use Rattle.std.specs.Prelude.{◌≡◌, refl, Bool, true, false, List}
 use Rattle.model.specs.Lists.{all_of, ◌∈◌}
 use Rattle.model.specs.Laws.Lists.{all_at}
-use Rattle.demands.specs.Statements.Demand3.{Controller, Demand3}
+use Rattle.demands.specs.Statements.Demand3.{Demand3}
 use Rattle.demands.specs.Statements.Demand2.{Demand2}
 use Rattle.demands.specs.Controller.{controller}
 use Rattle.demands.proofs.Theorems.Demand3.{demand3}

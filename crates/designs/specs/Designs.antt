@@ -1,7 +1,6 @@
 -- Controllers made of a design: how it chooses paths, which parts it commands, in which order, and how it writes its sheet. A design refuses as
 -- the controller does, by its own commands and sheets; the right design is the controller.
-use Rattle.std.specs.Prelude.{◌≡◌, refl, Bool, true, false, not, ◌||◌, cond, ◌⊎◌, ℕ, ltb, eqb, length}
-use Rattle.std.proofs.Common.{ap, inl, inr}
+use Rattle.std.specs.Prelude.{Bool, not, ◌||◌, cond, ℕ, ltb, eqb, length, Ok}
 use Rattle.std.specs.Bool.{beq}
 use mathlib.Core.List.{List, [], ◌∷◌, ◌++◌, flat_map}
 use Rattle.std.proofs.Math.Option.{Option, none, some}
@@ -12,7 +11,6 @@ use Rattle.model.specs.declared.Booking.{Booking}
 use Rattle.model.specs.declared.Load.{Load}
 use Rattle.model.specs.declared.Ring.{Ring}
 use Rattle.model.specs.declared.RingState.{RingState}
-use Rattle.model.specs.declared.Outcome.TheVariants as outcome
 use Rattle.model.specs.declared.Choice.TheVariants as choice
 use Rattle.model.specs.declared.BusChoice.{BusChoice}
 use Rattle.model.specs.declared.BookingAnswer.{BookingAnswer}
@@ -20,54 +18,15 @@ use Rattle.model.specs.Lists.{below, keep, any_of}
 use Rattle.model.specs.Values.{same_part}
 use Rattle.model.specs.Plant.{PartHealth, PartCommands, largest, parts}
 use Rattle.model.specs.Priority.{Path, path_parts}
-use Rattle.model.specs.Choosing.{on_paths, plan, commands, choice_of, choices}
-use Rattle.model.specs.Sheet.{opening, first_occurrences, parts_of, sequence, closing, sheet_of, sheet, written}
-use Rattle.model.specs.Reports.{places, health_of, commands_of, command_places, blank_ring, planned, called_for, with_plan}
-use Rattle.model.specs.Refusals.{
-  first_met,
-  or_else,
-  size_outside,
-  health_outside,
-  active_above,
-  locked_above,
-  unplanned,
-  bad_ring,
-  bus_outside,
-  count_above,
-  too_short,
-  next_sheet,
-  report_conditions,
-  sheet_refusal,
-  start_refusal,
-  step_refusal,
-}
-use Rattle.model.specs.Scans.{scan_reports, told_all, first_refusal, scan_refusal}
+use Rattle.model.specs.Choosing.{plan, choice_of}
+use Rattle.model.specs.Sheet.{opening, first_occurrences, sheet_of, written}
+use Rattle.model.specs.Reports.{places, health_of, commands_of, command_places, blank_ring}
+use Rattle.model.specs.Refusals.{first_met, or_else, size_outside, health_outside, active_above, locked_above, bus_outside, count_above, too_short, report_conditions, sheet_refusal}
+use Rattle.model.specs.Scans.{scan_reports, first_refusal}
 use Rattle.model.specs.Bookings.{live_bookings, with_figures, with_booking, without_booking, watts_outside, is_live, no_place, bad_load}
-use Rattle.model.specs.States.{
-  unloaded,
-  told_state,
-  reckoned,
-  bad_record,
-  state_refusal,
-  StateReply,
-  served_state,
-  served_by,
-  refused_by,
-  state_start,
-  state_step,
-  state_scan,
-  book_refusal,
-  cancel_refusal,
-  booking_by,
-  book_answer,
-  cancel_answer,
-}
-use Rattle.model.specs.Laws.Tests.{dec}
-use Rattle.model.specs.Laws.Lists.{flat_ext}
+use Rattle.model.specs.States.{unloaded, told_state, StateReply, refused_by, refused_booking}
 use Rattle.demands.specs.Statements.Demand3.{Controller}
 use Rattle.demands.specs.Statements.Demand2.{earlier}
-use Rattle.demands.specs.Controller.{controller}
-use Rattle.demands.proofs.Theorems.Demand2.{earlier_chosen}
 
 -- ---- a controller made of a design
 
@@ -115,7 +74,7 @@ module _ (d : Design) where
       let ring = state.ring in
       record {
         answer = record {
-          outcome = outcome.Served;
+          outcome = Ok tt;
           state = design_reckoned (record { n = ring.n; health = ring.health; commands = command_places (design_commands ring) }) state.load;
           choices = design_choices ring;
         };
@@ -160,8 +119,7 @@ module _ (d : Design) where
   -- a booking or a cancellation of refusal k, and the load that it leads to where it is served
   unfoldable pub design_booking : ℕ → RingState → Load → BookingAnswer
   design_booking k state load =
-      cond (eqb k 0) (record { outcome = outcome.Served; state = design_reckoned state.ring load })
-      (record { outcome = outcome.Refused k; state = state })
+      cond (eqb k 0) (record { outcome = Ok tt; state = design_reckoned state.ring load }) (refused_booking k state)
 
   -- its refusals in their order, 9 by the design
   unfoldable pub design_book : RingState → Booking → BookingAnswer

@@ -1,14 +1,7 @@
 -- A wrong controller, the claim that it fails, and the calls that show it: a row. What a list of such rows shows is in proofs/Rows.
-use Rattle.std.specs.Prelude.{◌≡◌, refl, Bool, true, false, List}
-use Rattle.model.specs.Lists.{all_of, ◌∈◌}
-use Rattle.model.specs.Laws.Lists.{all_at}
-use Rattle.demands.specs.Statements.Demand3.{Controller, Demand3}
-use Rattle.demands.specs.Statements.Demand2.{Demand2}
-use Rattle.demands.specs.Controller.{controller}
-use Rattle.demands.proofs.Theorems.Demand3.{demand3}
-use Rattle.demands.proofs.Theorems.Demand2.{demand2}
+use Rattle.std.specs.Prelude.{Bool}
+use Rattle.demands.specs.Statements.Demand3.{Controller}
 use Rattle.demands.proofs.Refuting.Claims.{Instance, Claim3, Claim2, fails3, fails2}
-use Rattle.demands.proofs.Refuting.Refuted.{refutes3, refutes2}
 
 -- a row of demand 3
 pub record Row3 : Type 0 where
