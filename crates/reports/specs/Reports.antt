@@ -1,5 +1,6 @@
 -- Reports: a report by the answers of its code and its word, and the i-th report of a file, counted from 0.
-use Rattle.std.specs.Prelude.{◌≡◌, Bool, ◌&&◌, ◌⊎◌, List, [], ◌∷◌, eqb, length}
+use Rattle.std.specs.Prelude.{◌≡◌, Bool, ◌&&◌, ◌⊎◌, List, [], ◌∷◌, eqb, length, Result, Ok, Err}
+use Rattle.std.specs.Prelude as std
 use Rattle.std.proofs.Math.Path.{refl}
 use Rattle.std.proofs.Common.{sym, ◌∙◌, ap, inl, inr}
 use Rattle.std.proofs.Math.Bool.{true, false, cond}
@@ -8,16 +9,14 @@ use Prim.Native.Nat.{ℕ, ◌≤◌, ◌<◌}
 use Rattle.std.proofs.Math.Dec.{ltb}
 use Rattle.std.proofs.Math.ListN.{get_or}
 use borrow.Author.Tests.{eqb-true, lt-ltb, le-ltb}
+use Rattle.std.proofs.Common.{arith, ne_eqb}
+use Rattle.std.proofs.lemmas.Bool.{eqb-false}
 use Rattle.model.specs.declared.Part.{Part}
 use Rattle.model.specs.declared.Word.{Word}
 use Rattle.model.specs.declared.Report.{Report}
-use Rattle.model.specs.declared.PartAnswer.{PartAnswer}
-use Rattle.model.specs.declared.PartAnswer.TheVariants as part
-use Rattle.model.specs.declared.WordAnswer.{WordAnswer}
-use Rattle.model.specs.declared.WordAnswer.TheVariants as word
-use Rattle.model.specs.declared.ReportAnswer.{ReportAnswer}
-use Rattle.model.specs.declared.ReportAnswer.TheVariants as report
-use Rattle.model.specs.Values.{part_code, word_number, numbered, report_values}
+use Rattle.model.specs.declared.Refusal.{Refusal}
+use Rattle.model.specs.declared.Refusal.TheVariants.{WordOutside}
+use Rattle.model.specs.Values.{part_code, word_number, refusal_number, refusal_of, numbered, report_values}
 use Rattle.model.specs.Plant.{InRing}
 use Rattle.model.specs.Reports.{part_named, word_named}
 use Rattle.model.specs.Refusals.{
@@ -31,6 +30,7 @@ use Rattle.model.specs.Refusals.{
 }
 use Rattle.model.specs.Answers.{part_answer, word_answer, report_at, report_values_at}
 use Rattle.model.specs.Laws.Tests.{dec}
+use Rattle.model.specs.Laws.Refusals.{IsNumber, is_number, zero_number, cond_number, number_of_refusal, refusal_positive}
 use Rattle.model.specs.Laws.Reports.{code_named}
 use Rattle.codes.specs.Codes.{of_ring, code_reads}
 use Rattle.words.specs.Words.{word_named_lem, number_names}
@@ -41,31 +41,31 @@ word_conditions p w = (6, word_of_other_kind p (word_number w)) ∷ []
 
 -- ---- one report, by the answers of its code and its word
 
-module _ (n c v : ℕ) (a : PartAnswer) (code_is : a ≡ part_answer (part_named n c)) where
-  pub code_refused : (k : ℕ) → a ≡ part.Refused k → report.Refused k ≡ report_answer n c v
+module _ (n c v : ℕ) (a : Result Part Refusal) (code_is : a ≡ part_answer (part_named n c)) where
+  pub code_refused : (k : Refusal) → a ≡ Err k → Err k ≡ report_answer n c v
   unfolding report_answer report_of part_answer
   code_refused k e = go (part_named n c) (sym e ∙ code_is)
     where
-      go : (o : Option Part) → part.Refused k ≡ part_answer o → report.Refused k ≡ report_of n o (word_named v)
+      go : (o : Option Part) → Err k ≡ part_answer o → Err k ≡ report_of n o (word_named v)
       go none q = cc
       go (some p) q = cc
 
-  module _ (p : Part) (part_is : a ≡ part.Named p) (b : WordAnswer) (word_is : b ≡ word_answer (word_named v)) where
-    pub word_refused : (k : ℕ) → b ≡ word.Refused k → report.Refused k ≡ report_answer n c v
+  module _ (p : Part) (part_is : a ≡ Ok p) (b : Result Word Refusal) (word_is : b ≡ word_answer (word_named v)) where
+    pub word_refused : (k : Refusal) → b ≡ Err k → Err k ≡ report_answer n c v
     unfolding report_answer report_of part_answer word_answer
     word_refused k e = go (part_named n c) (word_named v) (sym part_is ∙ code_is) (sym e ∙ word_is)
       where
-        go : (o : Option Part) (u : Option Word) → part.Named p ≡ part_answer o → word.Refused k ≡ word_answer u
-            → report.Refused k ≡ report_of n o u
+        go : (o : Option Part) (u : Option Word) → Ok p ≡ part_answer o → Err k ≡ word_answer u
+            → Err k ≡ report_of n o u
         go none u q s = cc
         go (some x) none q s = cc
         go (some x) (some w) q s = cc
 
-    pub both_named : (w : Word) → b ≡ word.Named w → report_of n (some p) (some w) ≡ report_answer n c v
+    pub both_named : (w : Word) → b ≡ Ok w → report_of n (some p) (some w) ≡ report_answer n c v
     unfolding report_answer part_answer word_answer
     both_named w e = go (part_named n c) (word_named v) (sym part_is ∙ code_is) (sym e ∙ word_is)
       where
-        go : (o : Option Part) (u : Option Word) → part.Named p ≡ part_answer o → word.Named w ≡ word_answer u
+        go : (o : Option Part) (u : Option Word) → Ok p ≡ part_answer o → Ok w ≡ word_answer u
             → report_of n (some p) (some w) ≡ report_of n o u
         go none u q s = cc
         go (some x) none q s = cc
@@ -77,10 +77,12 @@ unfolding report_answer report_refusal report_of numbered
 answer_values n c v = go (part_named n c) (word_named v) refl refl
   where
     by_number : (k : ℕ) (r : Report) → part_code r.part ≡ c → word_number r.word ≡ v → (eqb k 0 ≡ true) ⊎ (eqb k 0 ≡ false)
-        → report_values (cond (eqb k 0) (report.Read r) (report.Refused k))
-        ≡ numbered (report_values (cond (eqb k 0) (report.Read r) (report.Refused k))).0 (c ∷ v ∷ [])
+        → report_values (cond (eqb k 0) (Ok (std.Some r)) (Err (refusal_of k)))
+        ≡ numbered (report_values (cond (eqb k 0) (Ok (std.Some r)) (Err (refusal_of k)))).0 (c ∷ v ∷ [])
     by_number k r p q (inl e) = rw (e, p, q)
-    by_number k r p q (inr e) = simp e
+    by_number k r p q (inr e) =
+        let x = refusal_number (refusal_of k) in
+        rw (e, ne_eqb x 0 (λ z. omega (arith, z, refusal_positive (refusal_of k))))
 
     go : (o : Option Part) (u : Option Word) → part_named n c ≡ o → word_named v ≡ u
         → report_values (report_of n o u) ≡ numbered (report_values (report_of n o u)).0 (c ∷ v ∷ [])
@@ -93,10 +95,10 @@ answer_values n c v = go (part_named n c) (word_named v) refl refl
 -- ---- one reading of a report, by its part or by its code
 
 -- the number of a report that a test picks
-picked_number : (k : ℕ) (r : Report) → (eqb k 0 ≡ true) ⊎ (eqb k 0 ≡ false)
-    → (report_values (cond (eqb k 0) (report.Read r) (report.Refused k))).0 ≡ k
-picked_number k r (inl e) = rw e (sym (eqb-true k 0 e))
-picked_number k r (inr e) = rw e
+picked_number : (k : ℕ) (r : Report) → IsNumber k → (eqb k 0 ≡ true) ⊎ (eqb k 0 ≡ false)
+    → (report_values (cond (eqb k 0) (Ok (std.Some r)) (Err (refusal_of k)))).0 ≡ k
+picked_number k r is (inl e) = rw e (sym (eqb-true k 0 e))
+picked_number k r is (inr e) = rw e (number_of_refusal k is (eqb-false k 0 e))
 
 -- a report's code and number are read as the part, if the ring has it, and the word
 read_as : (n : ℕ) (p : Part) (w : Word) → InRing 32 p
@@ -115,12 +117,12 @@ one_reading n r h = read_as n r.part r.word h ∙ go (dec (not_of_ring n r.part)
     go : (not_of_ring n r.part ≡ true) ⊎ (not_of_ring n r.part ≡ false)
         → (report_values (report_of n (of_ring n r.part) (some r.word))).0 ≡ first_met (report_conditions n r)
     go (inl e) = rw e
-    go (inr e) = simp e (picked_number _ r (dec _))
+    go (inr e) = simp e (picked_number _ r (cond_number (word_of_other_kind r.part (word_number r.word)) (is_number WordOutside) zero_number) (dec _))
 
 -- ---- the i-th report of a file
 
 module _ (n : ℕ) (cs vs : List ℕ) (i : ℕ) where
-  pub report_gives : (r : ReportAnswer) → r ≡ report_at n cs vs i → (r ≡ report_at n cs vs i) × (report_values r ≡ report_values_at n cs vs i)
+  pub report_gives : (r : Result (std.Option Report) Refusal) → r ≡ report_at n cs vs i → (r ≡ report_at n cs vs i) × (report_values r ≡ report_values_at n cs vs i)
   unfolding report_at report_values_at
   report_gives r e = (e, rw e (go (ltb i (length cs) && ltb i (length vs))))
     where
@@ -130,20 +132,20 @@ module _ (n : ℕ) (cs vs : List ℕ) (i : ℕ) where
       v : ℕ
       v = get_or vs i 0
 
-      go : (t : Bool) → report_values (cond t (report_answer n c v) report.Missing)
+      go : (t : Bool) → report_values (cond t (report_answer n c v) (Ok std.None))
           ≡ cond t (numbered (report_refusal n c v) (c ∷ v ∷ [])) (0, [])
       go true = answer_values n c v
       go false = refl
 
-  pub past_codes : length cs ≤ i → report.Missing ≡ report_at n cs vs i
+  pub past_codes : length cs ≤ i → Ok std.None ≡ report_at n cs vs i
   unfolding report_at
   past_codes h = rw (le-ltb i (length cs))
 
-  pub past_words : length vs ≤ i → report.Missing ≡ report_at n cs vs i
+  pub past_words : length vs ≤ i → Ok std.None ≡ report_at n cs vs i
   unfolding report_at
   past_words h = rw (le-ltb i (length vs)) (go (ltb i (length cs)))
     where
-      go : (b : Bool) → report.Missing ≡ cond (b && false) (report_answer n (get_or cs i 0) (get_or vs i 0)) report.Missing
+      go : (b : Bool) → Ok std.None ≡ cond (b && false) (report_answer n (get_or cs i 0) (get_or vs i 0)) (Ok std.None)
       go true = refl
       go false = refl
 

@@ -3,13 +3,14 @@
 #![tactic(auto)]
 
 ghost use Rattle.std.specs.Prelude.{◌≡◌, false};
+ghost use Rattle.model.specs.Values.{refusal_number};
 ghost use Rattle.model.specs.Reports.{places, health_of, health_places, reported, blank_ring, told as told_ring};
 ghost use Rattle.model.specs.Answers.{refused_answer};
 ghost use Rattle.model.specs.Bookings.{no_load};
 ghost use Rattle.rings.specs.Words.{with_value, with_health, with_lock};
 
 use model::{
-    Booking, BusChoice, Choice, Commands, Health, Load, Outcome, Part, Report, Ring, RingAnswer,
+    Booking, BusChoice, Choice, Commands, Health, Load, Part, Refusal, Report, Ring, RingAnswer,
     Word,
 };
 
@@ -149,14 +150,14 @@ pub fn no_load() -> Load
 
 // "Each has its number as the answer, the record as handed in and the buffer untouched."; "The choices of a refused
 // start or step .. are all dark".
-pub fn refused(number: u8, ring: Ring) -> RingAnswer
-    ensures { result ≡ refused_answer number ring }
+pub fn refused(refusal: Refusal, ring: Ring) -> RingAnswer
+    ensures { result ≡ refused_answer (refusal_number refusal) ring }
 {
     let dark = BusChoice {
         choice: Choice::Dark,
     };
     RingAnswer {
-        outcome: Outcome::Refused(number),
+        outcome: Err(refusal),
         ring,
         choices: [dark; 20],
     }

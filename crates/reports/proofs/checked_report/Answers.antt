@@ -1,13 +1,16 @@
 -- `reports::checked_report` meets its contract.
-use Rattle.model.specs.declared.ReportAnswer.TheVariants.{Refused}
+use Rattle.std.proofs.Common.{Ok, Err, Some}
+use Rattle.std.proofs.lemmas.Result.{err_from_is_err_and}
 use Rattle.model.specs.Refusals.{report_of}
 use Rattle.model.specs.Laws.Refusals.{when_served, when_refused}
 use Rattle.reports.proofs.checked_report.Goals as goal
 
-pub returns-in-Served : goal.returns-in-Served
+pub returns-in_err-check_report : goal.returns-in_err-check_report
 unfolding report_of
-returns-in-Served c = when_served _ Refused _ _ c.check_report.ensures.answer c.in-Served.is
+returns-in_err-check_report c =
+    let p = err_from_is_err_and c.from_residual.result c.from_residual.ensures.1 in
+    rw (p.1, p.2) (when_refused (Ok (Some c.args.report)) Err _ _ c.check_report.ensures.answer _ c.in_err-check_report.was)
 
-pub returns-in-Refused : goal.returns-in-Refused
+pub returns : goal.returns
 unfolding report_of
-returns-in-Refused c = when_refused _ Refused _ _ c.check_report.ensures.answer _ c.in-Refused.is
+returns c = when_served _ Err _ _ c.check_report.ensures.answer c.in_ok-check_report.was

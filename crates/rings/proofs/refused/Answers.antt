@@ -3,8 +3,9 @@ use mathlib.Core.Path.{refl}
 use Rattle.model.specs.Lists.{below}
 use Rattle.model.specs.Reports.{places}
 use Rattle.model.specs.Answers.{all_dark, refused_answer}
+use Rattle.model.specs.Laws.Refusals.{refusal_named}
 use Rattle.rings.proofs.refused.Goals as goal
 
 pub returns : goal.returns
 unfolding below places all_dark refused_answer
-returns c = refl
+returns c = rw (refusal_named c.args.refusal)
