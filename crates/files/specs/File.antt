@@ -1,12 +1,12 @@
 -- The fault file: its refusal by the tests of its head, in their order, then by its reports; and how much of it decides.
-use Rattle.std.specs.Prelude.{◌≡◌, refl, Bool, true, false, not, cond, ◌⊎◌, ◌≢◌, List, [], ◌∷◌, map, ℕ, suc, ◌+◌, ◌-◌, ◌*◌, ◌≤◌, ◌<◌, eqb, ltb, length, get_or, take, drop}
+use Rattle.std.specs.Prelude.{◌≡◌, refl, Bool, true, false, not, cond, ◌⊎◌, ◌≢◌, List, [], ◌∷◌, map, ℕ, suc, ◌+◌, ◌-◌, ◌*◌, ◌≤◌, ◌<◌, eqb, ltb, length, get_or, take, drop, Result, Ok, Err}
 use Rattle.std.proofs.Common.{sym, ◌∙◌, ap, inl, inr, arith, take_all, get_or-take, length-take-le, eqb-true, eq-eqb, ne_eqb, lt-ltb, le-ltb}
+use Rattle.std.proofs.lemmas.Bool.{eqb-false}
 use Rattle.model.specs.declared.Rates.{Rates}
-use Rattle.model.specs.declared.Outcome.{Outcome}
-use Rattle.model.specs.declared.Outcome.TheVariants as outcome
-use Rattle.model.specs.declared.FileAnswer.{FileAnswer}
-use Rattle.model.specs.declared.FileAnswer.TheVariants as file
-use Rattle.model.specs.Values.{outcome_of, numbered, file_values}
+use Rattle.model.specs.declared.Refusal.{Refusal}
+use Rattle.model.specs.declared.Refusal.TheVariants.{FileShort, SizeOutside, ReportsAbove, LengthOther}
+use Rattle.model.specs.declared.FileHead.{FileHead}
+use Rattle.model.specs.Values.{Outcome, refusal_of, outcome_of, numbered, file_values}
 use Rattle.model.specs.Reports.{stands_for, file_length, file_size, file_count, file_codes, file_words}
 use Rattle.model.specs.Refusals.{first_met, or_else, size_outside, reports_refusal, file_refusal}
 use Rattle.model.specs.Answers.{file_answer, whole_values}
@@ -17,21 +17,23 @@ use Rattle.model.specs.CutText.{cut_text, latest_ring, printed_cut_sets}
 use Rattle.model.specs.ExposureText.{exposure_lines, printed_exposures}
 use Rattle.model.specs.Laws.Tests.{dec, dec_lt}
 use Rattle.model.specs.Laws.Reports.{stands_itself}
-use Rattle.model.specs.Laws.Refusals.{when_served, when_refused}
+use Rattle.model.specs.Laws.Refusals.{IsNumber, number_of_refusal, when_served, when_refused}
+use Rattle.model.specs.Laws.Numbers.{file_number}
 use Rattle.files.specs.Served.{stretches}
 
 -- r is the file's answer, with its values
-abbrev pub Answered : List ℕ → FileAnswer → Type 0
+abbrev pub Answered : List ℕ → Result FileHead Refusal → Type 0
 Answered f r = (r ≡ file_answer f) × (file_values r ≡ whole_values f)
 
-answered : (f : List ℕ) (r : FileAnswer) → r ≡ file_answer f → Answered f r
+answered : (f : List ℕ) (r : Result FileHead Refusal) → r ≡ file_answer f → Answered f r
 unfolding file_answer whole_values numbered
-answered f r e = (e, rw e (go (file_refusal f) (dec _)))
+answered f r e = (e, rw e (go (file_refusal f) (file_number f) (dec _)))
   where
-    go : (k : ℕ) → (eqb k 0 ≡ true) ⊎ (eqb k 0 ≡ false)
-        → file_values (cond (eqb k 0) (file.Served (file_size f) (file_count f)) (file.Refused k)) ≡ numbered k (file_size f ∷ file_count f ∷ [])
-    go k (inl q) = let z : k ≡ 0 = eqb-true k 0 q in rw z
-    go k (inr q) = rw q
+    go : (k : ℕ) → IsNumber k → (eqb k 0 ≡ true) ⊎ (eqb k 0 ≡ false)
+        → file_values (cond (eqb k 0) (Ok (record { n = file_size f; m = file_count f })) (Err (refusal_of k)))
+        ≡ numbered k (file_size f ∷ file_count f ∷ [])
+    go k is (inl q) = let z : k ≡ 0 = eqb-true k 0 q in rw z
+    go k is (inr q) = rw (q, number_of_refusal k is (eqb-false k 0 q))
 
 -- ---- the head
 
@@ -63,9 +65,9 @@ module _ (f : List ℕ) where
   head_number : (k : ℕ) → head_refusal (file_length f) (file_size f) (file_count f) ≡ k → eqb k 0 ≡ false → file_refusal f ≡ k
   head_number k e z = head_then_reports f ∙ rw (e, z)
 
-  head_refused : (k : ℕ) → head_refusal (file_length f) (file_size f) (file_count f) ≡ k → eqb k 0 ≡ false → Answered f (file.Refused k)
+  head_refused : (k : ℕ) → head_refusal (file_length f) (file_size f) (file_count f) ≡ k → eqb k 0 ≡ false → Answered f (Err (refusal_of k))
   unfolding file_answer
-  head_refused k e z = answered f (file.Refused k) (rw (head_number k e z, z))
+  head_refused k e z = answered f (Err (refusal_of k)) (rw (head_number k e z, z))
 
 -- ".. a ring of three": of no bytes
 pub three_buses : (f : List ℕ) → length f ≡ 0 → 3 ≡ file_size f
@@ -76,7 +78,7 @@ three_buses (b ∷ bs) h = absurd (omega arith)
 pub first_byte : (f : List ℕ) → 0 < length f → get_or f 0 0 ≡ file_size f
 first_byte f h = rw (stands_itself f h)
 
-pub file_empty : (f : List ℕ) (n m : ℕ) → n ≡ file_size f → length f ≡ 0 → m ≡ 0 → Answered f (file.Served n m)
+pub file_empty : (f : List ℕ) (n m : ℕ) → n ≡ file_size f → length f ≡ 0 → m ≡ 0 → Answered f (Ok (record { n = n; m = m }))
 unfolding file_answer file_refusal first_met size_outside reports_refusal
 file_empty [] n m s h e = answered [] _ (rw (s, e))
 file_empty (b ∷ bs) n m s h e = absurd (omega arith)
@@ -85,10 +87,12 @@ file_empty (b ∷ bs) n m s h e = absurd (omega arith)
 own_length : (f : List ℕ) → 0 < length f → file_length f ≡ length f
 own_length f h = ap length (stands_itself f h)
 
-pub file_short : (f : List ℕ) → 0 < length f → length f < 3 → Answered f (file.Refused 1)
+pub file_short : (f : List ℕ) → 0 < length f → length f < 3 → Answered f (Err FileShort)
+unfolding refusal_of
 file_short f h l = head_refused f 1 (head_short _ _ _ (omega (arith, own_length f h))) refl
 
-pub file_size_lem : (f : List ℕ) (n : ℕ) → 3 ≤ length f → n ≡ file_size f → size_outside n ≡ true → Answered f (file.Refused 2)
+pub file_size_lem : (f : List ℕ) (n : ℕ) → 3 ≤ length f → n ≡ file_size f → size_outside n ≡ true → Answered f (Err SizeOutside)
+unfolding refusal_of
 file_size_lem f n l s h = head_refused f 2 (head_outside _ _ _ (omega (arith, own_length f (omega arith))) (rw (← s) h)) refl
 
 -- a file has 3 bytes, and a number n of buses that is served
@@ -107,11 +111,13 @@ module _ (f : List ℕ) (n : ℕ) (sized : Sized f n) (m : ℕ) (count : m ≡ g
   by_count =
       rw (own_length f (omega (arith, sized.three)), ← own_count, ← sized.size) (head_inside _ _ _ sized.three sized.inside)
 
-  pub file_count_lem : 4096 < m → Answered f (file.Refused 3)
+  pub file_count_lem : 4096 < m → Answered f (Err ReportsAbove)
+  unfolding refusal_of
   file_count_lem h = head_refused f 3 (by_count ∙ rw (lt-ltb 4096 m)) refl
 
   module _ (few : m ≤ 4096) where
-    pub file_length_lem : length f ≢ 3 + 2 * m → Answered f (file.Refused 4)
+    pub file_length_lem : length f ≢ 3 + 2 * m → Answered f (Err LengthOther)
+    unfolding refusal_of
     file_length_lem h = head_refused f 4 (by_count ∙ rw (le-ltb 4096 m, ne_eqb (length f) (3 + 2 * m))) refl
 
     -- the outcome of the reports that stand in the two stretches of a whole file
@@ -127,13 +133,13 @@ module _ (f : List ℕ) (n : ℕ) (sized : Sized f n) (m : ℕ) (count : m ≡ g
           by_count ∙ rw (le-ltb 4096 m, eq-eqb (length f) (3 + 2 * m)) in
           is ∙ rw (both.0, both.1, sized.size, head_then_reports f, none_met)
 
-      pub file_served : o ≡ outcome.Served → Answered f (file.Served n m)
+      pub file_served : o ≡ Ok tt → Answered f (Ok (record { n = n; m = m }))
       unfolding file_answer
-      file_served e = rw (sized.size, own_count) (answered f _ (when_served _ file.Refused _ o by_reports e))
+      file_served e = rw (sized.size, own_count) (answered f _ (when_served _ Err _ o by_reports e))
 
-      pub file_refused : (k : ℕ) → o ≡ outcome.Refused k → Answered f (file.Refused k)
+      pub file_refused : (r : Refusal) → o ≡ Err r → Answered f (Err r)
       unfolding file_answer
-      file_refused k e = answered f _ (when_refused _ file.Refused _ o by_reports k e)
+      file_refused r e = answered f _ (when_refused _ Err _ o by_reports r e)
 
 -- ---- how much of a file decides
 
@@ -190,7 +196,7 @@ module _ {A : Type 0} (served : List ℕ → A) (refused : ℕ → A) where
 -- what is read of a file, however long, has its answer
 pub answer_read : (f : List ℕ) → file_answer (take read_size f) ≡ file_answer f
 unfolding file_answer made
-answer_read = made_read (λ f. file.Served (file_size f) (file_count f)) file.Refused
+answer_read = made_read (λ f. Ok (record { n = file_size f; m = file_count f })) (λ k. Err (refusal_of k))
 
 -- and the lines of its run
 lines_read : (f : List ℕ) → run_lines (take read_size f) ≡ run_lines f

@@ -1,18 +1,21 @@
 -- A file that is not refused, what a file's answer says of it, and where its part codes and words stand.
-use Rattle.std.specs.Prelude.{◌≡◌, refl, not, ◌⊎◌, ◌≢◌, List, [], ◌∷◌, ℕ, ◌+◌, ◌-◌, ◌*◌, ◌≤◌, ◌<◌, eqb, ltb, length, take, drop}
+use Rattle.std.specs.Prelude.{◌≡◌, refl, not, ◌⊎◌, ◌≢◌, List, [], ◌∷◌, ℕ, ◌+◌, ◌-◌, ◌*◌, ◌≤◌, ◌<◌, eqb, ltb, length, take, drop, Ok, Err}
 use Rattle.std.proofs.Common.{sym, ◌∙◌, ap, inl, inr, arith, length-take, length-drop, take_all, eqb-true, ltb-false, ne_eqb}
 use Rattle.std.proofs.lemmas.Bool.{not-false}
-use Rattle.model.specs.declared.FileAnswer.TheVariants as file
+use Rattle.model.specs.declared.Refusal.{Refusal}
+use Rattle.model.specs.declared.FileHead.{FileHead}
+use Rattle.model.specs.Values.{refusal_number, refusal_of}
 use Rattle.model.specs.Plant.{smallest, largest}
 use Rattle.model.specs.Reports.{stands_for, file_length, file_size, file_count, file_codes, file_words}
 use Rattle.model.specs.Refusals.{first_met, or_else, size_outside, reports_refusal, file_refusal}
 use Rattle.model.specs.Answers.{file_answer}
 use Rattle.model.specs.Laws.Tests.{never, dec_eq}
 use Rattle.model.specs.Laws.Reports.{stands_itself, stretches_read}
-use Rattle.model.specs.Laws.Refusals.{first_unmet, size_bounds}
+use Rattle.model.specs.Laws.Refusals.{number_of_refusal, first_unmet, size_bounds}
+use Rattle.model.specs.Laws.Numbers.{file_number}
 
 -- no file is both served and refused
-either : {n m k : ℕ} → file.Served n m ≡ file.Refused k → ⊥
+either : {h : FileHead} {r : Refusal} → Ok h ≡ Err r → ⊥
 either e = never cc
 
 -- a first refusal of none: neither refuses
@@ -72,22 +75,28 @@ has_bytes (b ∷ bs) h = omega arith
 
 -- the answers to a file
 module _ (f : List ℕ) where
-  pub answer_refused : (k : ℕ) → file_answer f ≡ file.Refused k → (file_refusal f ≢ 0) × (k ≡ file_refusal f)
+  pub answer_refused : (r : Refusal) → file_answer f ≡ Err r → (file_refusal f ≢ 0) × (refusal_number r ≡ file_refusal f)
   unfolding file_answer
-  answer_refused k e = go (dec_eq (file_refusal f) 0)
+  answer_refused r e = go (dec_eq (file_refusal f) 0)
     where
-      go : (file_refusal f ≡ 0) ⊎ (file_refusal f ≢ 0) → (file_refusal f ≢ 0) × (k ≡ file_refusal f)
-      go (inl z) = let t : file.Served (file_size f) (file_count f) ≡ file.Refused k = rw z at e in absurd (either t)
-      go (inr z) = let t : file.Refused (file_refusal f) ≡ file.Refused k = rw (ne_eqb (file_refusal f) 0 z) at e in (z, cc)
-
-  pub answer_served : (n m : ℕ) → file_answer f ≡ file.Served n m → (file_refusal f ≡ 0) × (n ≡ file_size f) × (m ≡ file_count f)
-  unfolding file_answer
-  answer_served n m e = go (dec_eq (file_refusal f) 0)
-    where
-      go : (file_refusal f ≡ 0) ⊎ (file_refusal f ≢ 0) → (file_refusal f ≡ 0) × (n ≡ file_size f) × (m ≡ file_count f)
-      go (inl z) = let t : file.Served (file_size f) (file_count f) ≡ file.Served n m = rw z at e in (z, cc, cc)
+      go : (file_refusal f ≡ 0) ⊎ (file_refusal f ≢ 0) → (file_refusal f ≢ 0) × (refusal_number r ≡ file_refusal f)
+      go (inl z) = let t : Ok (record { n = file_size f; m = file_count f }) ≡ Err r = rw z at e in absurd (either t)
       go (inr z) =
-          let t : file.Refused (file_refusal f) ≡ file.Served n m = rw (ne_eqb (file_refusal f) 0 z) at e in
+          let t : Err (refusal_of (file_refusal f)) ≡ Err r = rw (ne_eqb (file_refusal f) 0 z) at e in
+          let u : refusal_of (file_refusal f) ≡ r = cc in
+          (z, ap refusal_number (sym u) ∙ number_of_refusal (file_refusal f) (file_number f) z)
+
+  pub answer_served : (h : FileHead) → file_answer f ≡ Ok h → (file_refusal f ≡ 0) × (h.n ≡ file_size f) × (h.m ≡ file_count f)
+  unfolding file_answer
+  answer_served h e = go (dec_eq (file_refusal f) 0)
+    where
+      go : (file_refusal f ≡ 0) ⊎ (file_refusal f ≢ 0) → (file_refusal f ≡ 0) × (h.n ≡ file_size f) × (h.m ≡ file_count f)
+      go (inl z) =
+          let t : Ok (record { n = file_size f; m = file_count f }) ≡ Ok h = rw z at e in
+          let u : record { n = file_size f; m = file_count f } ≡ h = cc in
+          (z, ap (λ (x : FileHead). x.n) (sym u), ap (λ (x : FileHead). x.m) (sym u))
+      go (inr z) =
+          let t : Err (refusal_of (file_refusal f)) ≡ Ok h = rw (ne_eqb (file_refusal f) 0 z) at e in
           absurd (either (sym t))
 
 -- the two stretches of what was read of a file that has m reports, from 3 to k and from k on, are its part codes and its words

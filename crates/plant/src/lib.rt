@@ -12,7 +12,7 @@ ghost use Rattle.plant.specs.Feeders.{with_feeder};
 ghost use Rattle.plant.specs.Buses.{dark_buses, feeds_below};
 ghost use Rattle.plant.specs.Answer.{refused_answer};
 
-use model::{BusFeed, Commands, Feed, FeedsAnswer, Health, Outcome};
+use model::{BusFeed, Commands, Feed, FeedsAnswer, Health, Refusal};
 
 // "For each bus its answer is one of three: dark, fed by one generator, or a clash that names the two lowest generators
 // feeding it.": the answer with one feeding generator more, whose number is higher than those before.
@@ -63,11 +63,11 @@ fn bus_feeds(n: usize, health: Health, commands: Commands) -> [BusFeed; 20]
 }
 
 // "Each has its number as the answer"; "the buses of a refused reckoning are all dark"
-fn refused(number: u8) -> FeedsAnswer
-    ensures { result ≡ refused_answer number }
+fn refused(refusal: Refusal) -> FeedsAnswer
+    ensures { result ≡ refused_answer refusal }
 {
     FeedsAnswer {
-        outcome: Outcome::Refused(number),
+        outcome: Err(refusal),
         buses: dark_buses(),
     }
 }
@@ -80,14 +80,14 @@ pub fn feeds(n: u8, health: Health, commands: Commands) -> FeedsAnswer
     ensures values { feed_values result.buses ≡ places (bus_values n health commands) }
 {
     if components::size_outside(n) {
-        return refused(2);
+        return refused(Refusal::SizeOutside);
     }
     let size = n as usize;
     if healths::health_outside(size, health) {
-        return refused(9);
+        return refused(Refusal::BadRecord);
     }
     FeedsAnswer {
-        outcome: Outcome::Served,
+        outcome: Ok(()),
         buses: bus_feeds(size, health, commands),
     }
 }

@@ -1,18 +1,18 @@
 -- The reports of a scan, one after the other: a ring told each, and the first that is refused. Reports are counted from 0.
-use Rattle.std.specs.Prelude.{◌≡◌, ◌≢◌, List, ℕ, suc, ◌+◌, ◌≤◌, ◌<◌, length, get_or, take, drop}
+use Rattle.std.specs.Prelude.{◌≡◌, List, ℕ, suc, ◌+◌, ◌≤◌, ◌<◌, length, get_or, take, drop, Ok, Err}
 use Rattle.std.proofs.Common.{sym, ◌∙◌, ap, arith, drop-cons, ne_eqb}
 use Rattle.std.proofs.Math.Numerals.{add-one}
 use Rattle.std.proofs.Math.ListN.{length-take, drop_of_length-le}
 use Rattle.std.proofs.Math.Seq.{take-suc, length-take-le, get_or-take}
 use Rattle.model.specs.declared.Report.{Report}
 use Rattle.model.specs.declared.Ring.{Ring}
-use Rattle.model.specs.declared.Outcome.{Outcome}
-use Rattle.model.specs.declared.Outcome.TheVariants.{Served, Refused}
-use Rattle.model.specs.Values.{outcome_number, outcome_of}
+use Rattle.model.specs.declared.Refusal.{Refusal}
+use Rattle.model.specs.Values.{Outcome, outcome_number, outcome_of}
 use Rattle.model.specs.Reports.{told}
 use Rattle.model.specs.Refusals.{first_met, or_else, report_conditions}
 use Rattle.model.specs.Scans.{told_all, first_refusal}
-use Rattle.model.specs.Laws.Refusals.{outcome_is, served_zero, refused_number}
+use Rattle.model.specs.Laws.Refusals.{outcome_is, served_zero, refused_by}
+use Rattle.model.specs.Laws.Numbers.{first_refusal_number}
 use Rattle.model.specs.Laws.Scans.{told_append}
 
 -- ---- the ring told each report
@@ -38,12 +38,6 @@ module _ (ring : Ring) (l : List Report) (i : ℕ) where
 
 -- ---- the first report that is refused
 
--- the outcome that has the number of a refusal is that refusal
-numbered : (a : Outcome) (k : ℕ) → k ≢ 0 → outcome_number a ≡ k → a ≡ outcome_of k
-unfolding outcome_of
-numbered Served k h e = absurd (h (sym e))
-numbered (Refused j) k h e = rw (ne_eqb k 0 h) (ap Refused e)
-
 -- the reports before the i-th are not refused: of the first k of the places l, those from the i-th on decide
 unfoldable pub DecidedFrom : ℕ → List Report → ℕ → ℕ → Type 0
 DecidedFrom n l k i = first_refusal n (take k l) ≡ first_refusal n (drop i (take k l))
@@ -57,10 +51,10 @@ module _ (n : ℕ) (l : List Report) (k i : ℕ) where
   unfolding DecidedFrom
   none_passed e = rw e
 
-  pub all_passed : k ≤ i → DecidedFrom n l k i → Checked n l k Served
+  pub all_passed : k ≤ i → DecidedFrom n l k i → Checked n l k (Ok tt)
   unfolding DecidedFrom first_refusal outcome_of
   all_passed h decided =
-      outcome_is _ Served (rw (decided, drop_of_length-le (take k l) {i = i} (omega (arith, length-take k l))))
+      outcome_is (first_refusal_number _ _) (Ok tt) (rw (decided, drop_of_length-le (take k l) {i = i} (omega (arith, length-take k l))))
 
   -- m and j are the size and the index that the code passes on
   module _ (m j : ℕ) (d : Report) (f : m ≡ n) (g : j ≡ i) (few : k ≤ length l) (h : i < k) (decided : DecidedFrom n l k i) (o : Outcome)
@@ -77,13 +71,13 @@ module _ (n : ℕ) (l : List Report) (k i : ℕ) where
     own_outcome : o ≡ outcome_of own
     own_outcome = rw (f, g) at is
 
-    pub report_good : o ≡ Served → DecidedFrom n l k (i + 1)
+    pub report_good : o ≡ Ok tt → DecidedFrom n l k (i + 1)
     unfolding DecidedFrom
     report_good e = then_rest_lem ∙ rw (served_zero own_outcome e, add-one)
 
-    -- a is the answer to a report that is refused: it has its number
-    pub report_bad : (number : ℕ) → o ≡ Refused number → (a : Outcome) → outcome_number a ≡ number → Checked n l k a
-    report_bad number e a same =
-        let z = refused_number own_outcome number e in
+    -- the first report that is refused refuses them
+    pub report_bad : (r : Refusal) → o ≡ Err r → Checked n l k (Err r)
+    report_bad r e =
+        let z = refused_by own_outcome r e in
         let first : first_refusal n (take k l) ≡ own = then_rest_lem ∙ rw (ne_eqb own 0 z.1) in
-        outcome_is _ a (numbered a own z.1 (same ∙ sym z.0) ∙ ap outcome_of (sym first))
+        outcome_is (first_refusal_number _ _) (Err r) (sym e ∙ own_outcome ∙ ap outcome_of (sym first))

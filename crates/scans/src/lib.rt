@@ -5,26 +5,20 @@ ghost use Rattle.std.specs.Prelude.{◌≡◌, ◌≤◌};
 ghost use Rattle.model.specs.Values.{outcome_of, outcome_number};
 ghost use Rattle.model.specs.Scans.{scan_reports, told_all, first_refusal};
 
-use model::{Outcome, Ring, Scan};
+use model::{Refusal, Ring, Scan};
 
 // "The first bad report refuses the scan with the refusal that report alone would get": no later one is looked at, and "places past the
 // count are not read". An inner call: the count is at most 64, which its callers have checked.
-pub fn check(n: u8, scan: Scan) -> Outcome
+pub fn check(n: u8, scan: Scan) -> Result<(), Refusal>
     requires { scan.count ≤ 64 }
     ensures answer { result ≡ outcome_of (first_refusal n (scan_reports scan)) }
     ensures number { outcome_number result ≡ first_refusal n (scan_reports scan) }
 {
     let count = scan.count as usize;
     for i in 0..count {
-        let report = scan.reports[i];
-        match reports::check_report(n, report) {
-            Outcome::Served => {}
-            Outcome::Refused(number) => {
-                return Outcome::Refused(number);
-            }
-        }
+        reports::check_report(n, scan.reports[i])?;
     }
-    Outcome::Served
+    Ok(())
 }
 
 // A ring told every report of a scan, first to last, before any command: "The record and choices must be those that single steps would

@@ -1,14 +1,13 @@
 -- What writing a command sheet into a lent buffer answers and leaves: refused by 8, or served.
-use Rattle.std.specs.Prelude.{◌≡◌, refl, ◌&&◌, List, ◌++◌, map, ℕ, ◌+◌, ◌*◌, ◌≤◌, ◌<◌, drop}
+use Rattle.std.specs.Prelude.{◌≡◌, refl, ◌&&◌, List, ◌++◌, map, ℕ, ◌+◌, ◌*◌, ◌≤◌, ◌<◌, drop, Ok, Err}
 use Rattle.std.proofs.Math.Path.{sym, ap}
 use Rattle.std.proofs.Common.{◌∙◌, arith, lt-ltb, le-ltb}
 use Rattle.std.proofs.Math.Bool.{not}
 use Rattle.std.proofs.Math.ListN.{length, length-map}
 use Rattle.model.specs.declared.Commands.{Commands}
 use Rattle.model.specs.declared.BusChoice.{BusChoice}
-use Rattle.model.specs.declared.Outcome.{Outcome}
-use Rattle.model.specs.declared.Outcome.TheVariants.{Served, Refused}
-use Rattle.model.specs.Values.{part_code, outcome_number, outcome_of}
+use Rattle.model.specs.Values.{part_code, Outcome, refusal_of, outcome_number, outcome_of}
+use Rattle.model.specs.declared.Refusal.TheVariants.{BufferShort}
 use Rattle.model.specs.Plant.{PartHealth, largest, parts}
 use Rattle.model.specs.Choosing.{plan, commands, choices}
 use Rattle.model.specs.Sheet.{opening, closing, sheet_of, sheet, written}
@@ -90,12 +89,12 @@ module _ (bytes buffer : List ℕ) where
       (o ≡ outcome_of (sheet_refusal (length buffer) bytes))
       × ((outcome_number o ≡ sheet_refusal (length buffer) bytes) × (after ≡ buffer_after bytes buffer))
 
-  pub write_refused : length buffer < length bytes → Wrote (Refused 8) buffer
-  unfolding outcome_of buffer_after sheet_refusal first_met too_short
+  pub write_refused : length buffer < length bytes → Wrote (Err BufferShort) buffer
+  unfolding outcome_of refusal_of buffer_after sheet_refusal first_met too_short
   write_refused h = rw (lt-ltb (length buffer) (length bytes) h) (refl, (refl, refl))
 
   -- the sheet at the front, and the bytes behind it
   pub write_served : length bytes ≤ length buffer → (front : List ℕ) (size : ℕ) → front ≡ bytes → size ≡ length bytes
-      → Wrote Served (front ++ drop size buffer)
-  unfolding outcome_of buffer_after sheet_refusal first_met too_short written
+      → Wrote (Ok tt) (front ++ drop size buffer)
+  unfolding outcome_of refusal_of buffer_after sheet_refusal first_met too_short written
   write_served h front size e f = rw (le-ltb (length buffer) (length bytes) h, e, f) (refl, (refl, refl))

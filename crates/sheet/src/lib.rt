@@ -7,7 +7,7 @@ ghost use Rattle.model.specs.Refusals.{sheet_refusal};
 ghost use Rattle.model.specs.Answers.{buffer_after};
 ghost use Rattle.sheet.specs.Writing.{Planned, sheet_by};
 
-use model::{BusChoice, Commands, Outcome};
+use model::{BusChoice, Commands, Refusal};
 
 // Writes the sheet that leads from the old commands to the new, outward along the paths that the choices name, unless the buffer is
 // shorter. An inner call: the new commands and the choices are a plan's, and n is at most 20, which its callers know.
@@ -17,7 +17,7 @@ pub fn write(
     new: Commands,
     choices: [BusChoice; 20],
     buffer: &mut [u8],
-) -> Outcome
+) -> Result<(), Refusal>
     requires size { n ≤ 20 }
     requires planned { Planned n new choices }
     ensures answer { result ≡ outcome_of (sheet_refusal (length buffer.old) (sheet_by n old new choices)) }
@@ -34,10 +34,10 @@ pub fn write(
     let room = buffer.len();
     // 8: "order buffer shorter than the sheet"
     if room < size {
-        return Outcome::Refused(8);
+        return Err(Refusal::BufferShort);
     }
     sequences::closing(buses, old, choices, counts.closing, &mut closing);
     // "Bytes of the lent buffer behind the sheet keep their values."
     layout::lay_out(&opening, &closing, counts, &mut buffer[..size]);
-    Outcome::Served
+    Ok(())
 }

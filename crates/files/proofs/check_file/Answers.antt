@@ -1,6 +1,7 @@
 -- `files::check_file` meets its contract: the tests that lead to each return are those of the file's refusal.
 use mathlib.Core.Path.{sym, ◌∙◌, refl}
 use native.Mathlib.Omega.{arith}
+use Rattle.std.proofs.lemmas.Result.{err_from_is_err_and}
 use Rattle.model.specs.Laws.Tests.{facts}
 use Rattle.files.specs.File.{file_empty, file_short, file_size_lem, Sized, file_count_lem, file_length_lem, file_served, file_refused}
 use Rattle.files.proofs.check_file.Goals as goal
@@ -46,11 +47,16 @@ returns-then-m-gt4096 c = let whole = file_count_lem _ _ (sized (goal.at.returns
 pub returns-then-file-m : goal.returns-then-file-m
 returns-then-file-m c = let whole = file_length_lem _ _ (sized (goal.at.returns-then-file-m c).Else-size_outside) _ refl (omega (arith, facts)) (omega (arith, facts)) in record { answer = whole.0; values = whole.1 }
 
-pub returns-in-Served : goal.returns-in-Served
-returns-in-Served c = let whole = file_served _ _ (sized (goal.at.returns-in-Served c).Else-size_outside) _ refl (omega (arith, facts)) (omega (arith, facts)) _
-    c.check_reports.ensures c.in-Served.is in record { answer = whole.0; values = whole.1 }
-
 -- 5, 6
-pub returns-in-Refused : goal.returns-in-Refused
-returns-in-Refused c = let whole = file_refused _ _ (sized (goal.at.returns-in-Refused c).Else-size_outside) _ refl (omega (arith, facts)) (omega (arith, facts)) _
-    c.check_reports.ensures _ c.in-Refused.is in record { answer = whole.0; values = whole.1 }
+pub returns-in_err-check_reports : goal.returns-in_err-check_reports
+returns-in_err-check_reports c =
+    let p = err_from_is_err_and c.from_residual.result c.from_residual.ensures.1 in
+    let whole = file_refused _ _ (sized (goal.at.returns-in_err-check_reports c).Else-size_outside) _ refl (omega (arith, facts)) (omega (arith, facts)) _
+    c.check_reports.ensures _ c.in_err-check_reports.was in
+    rw (p.1, p.2) (record { answer = whole.0; values = whole.1 })
+
+pub returns : goal.returns
+returns c =
+    let whole = file_served _ _ (sized (goal.at.returns c).Else-size_outside) _ refl (omega (arith, facts)) (omega (arith, facts)) _
+    c.check_reports.ensures c.in_ok-check_reports.was in
+    record { answer = whole.0; values = whole.1 }

@@ -1,5 +1,6 @@
 -- `scans::check` meets its contract. The loop's invariant: the reports before the i-th are not refused.
 use native.Mathlib.Omega.{arith}
+use Rattle.std.proofs.lemmas.Result.{err_from_is_err_and}
 use Rattle.scans.specs.Reports.{none_passed, all_passed, report_good, report_bad}
 use Rattle.scans.proofs.check.Goals as goal
 
@@ -13,15 +14,18 @@ offset_bounds-scan-i c = omega arith
 pub bounds-scan-i : goal.bounds-scan-i
 bounds-scan-i c = omega arith
 
-pub returns-in-Refused : goal.returns-in-Refused
-returns-in-Refused c = let whole = report_bad _ _ _ c.loop-i.i _ _ _ (omega arith) (omega arith) (omega arith) (omega arith) c.loop-i.invariant.0 _ c.check_report.ensures.answer _
-    c.in-Refused.is _ (omega arith) in record { answer = whole.0; number = whole.1 }
+pub returns-in_err-check_report : goal.returns-in_err-check_report
+returns-in_err-check_report c =
+    let p = err_from_is_err_and c.from_residual.result c.from_residual.ensures.1 in
+    let whole = report_bad _ _ _ c.loop-i.i _ _ _ (omega arith) (omega arith) (omega arith) (omega arith) c.loop-i.invariant.0 _ c.check_report.ensures.answer _
+    c.in_err-check_report.was in
+    rw (p.1, p.2) (record { answer = whole.0; number = whole.1 })
 
 pub loop-i-preserved : goal.loop-i-preserved
 loop-i-preserved c =
     let good =
     report_good _ _ _ c.loop-i.i _ _ _ (omega arith) (omega arith) (omega arith) (omega arith) c.loop-i.invariant.0 _ c.check_report.ensures.answer
-    c.in-Served.is in
+    c.in_ok-check_report.was in
     (good, omega arith, omega arith)
 
 pub returns : goal.returns
