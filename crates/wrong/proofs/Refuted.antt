@@ -9,9 +9,10 @@ use Rattle.model.specs.declared.Part.TheVariants.{Generator, GeneratorBreaker, B
 use Rattle.model.specs.declared.Word.TheVariants.{StuckOff, Fit, StuckOpen, Lock, Unlock}
 use Rattle.model.specs.declared.Report.{Report}
 use Rattle.model.specs.declared.Scan.{Scan}
+use Rattle.model.specs.declared.Refusal.TheVariants.{PartOutside}
 use Rattle.model.specs.declared.Feed.TheVariants as feed
 use Rattle.model.specs.Lists.{below, keep, first, any_of, all_of, ◌∈◌, sum}
-use Rattle.model.specs.Values.{same_part, part_code}
+use Rattle.model.specs.Values.{same_part, part_code, refusal_of}
 use Rattle.model.specs.Plant.{parts, bus_feed, health_of_kind, next, up, arc, connected, feeds, feeders, feed_by}
 use Rattle.model.specs.Priority.{sources, path_bus_breakers, path_parts, paths, others, path_breakers, high_rises, paths_from}
 use Rattle.model.specs.Choosing.{
@@ -76,7 +77,6 @@ use Rattle.model.specs.States.{
   refused_state,
 }
 use Rattle.model.specs.Laws.Tests.{contra}
-use Rattle.model.specs.Laws.Refusals.{served_refused}
 use Rattle.demands.specs.Statements.Demand3.{
   PlantState,
   decode,
@@ -616,7 +616,7 @@ unfolding below keep first any_of all_of part_code same_part parts health_of_kin
     sources path_bus_breakers path_breakers path_parts high_rises paths_from paths on_paths usable counted_closed isolated permitted choose
     add_path chosen plan commands choice_of choices opening first_occurrences parts_of sequence closing sheet_of sheet written part_named reported places health_of commands_of
     health_places command_places blank_ring told planned with_plan first_met size_outside not_of_ring word_of_other_kind too_short
-    health_outside active_above locked_above unplanned bad_ring next_sheet report_conditions start_refusal step_refusal all_dark refused_state
+    health_outside active_above locked_above unplanned bad_ring next_sheet report_conditions start_refusal step_refusal all_dark refusal_of refused_state
     served_state state_start state_step after_word after_words perform perform_all command_named with_operation operations phases_at
     decode excepted word_refusal earlier ordered both_phases world_after after_call run sum digest ring_sum choice_number choices_sum
     operation_number operations_digest is_dark feed_number is_clash on_world on_phases due refused_in_vain not_refused record_changed buffer_changed
@@ -670,8 +670,8 @@ none_meets_3 = none_of_3 wrongs3 computed.refuted_3
 
 -- nor one that is wrong at the largest ring alone, or above it
 none_meets_20 : Demand3 refuses_twenty → ⊥
-unfolding refuses_twenty start_spoilt refused_state
-none_meets_20 d = five ((d.start_answered 20 full_room).only 5 refl)
+unfolding refuses_twenty start_spoilt refused_state refusal_of
+none_meets_20 d = five ((d.start_answered 20 full_room).only PartOutside refl)
   where
     five : {n k : ℕ} → StartMeets n k 5 → ⊥
     five {n} {k} m = go m refl
@@ -683,7 +683,7 @@ none_meets_20 d = five ((d.start_answered 20 full_room).only 5 refl)
 
 none_meets_21 : Demand3 serves_starts → ⊥
 unfolding serves_starts start_spoilt served_state
-none_meets_21 d = served_refused refl ((d.start_answered 21 full_room).always 2 (too_large (omega arith)))
+none_meets_21 d = let zero_is_two : 0 ≡ 2 = (d.start_answered 21 full_room).always 2 (too_large (omega arith)) in omega (arith, zero_is_two)
 
 -- none of the wrong controllers meets demand 2
 pub none_meets_2 : (k : Row2) → k ∈ wrongs2 → Demand2 k.wrong → ⊥

@@ -8,7 +8,6 @@ use Rattle.model.specs.declared.Scan.{Scan}
 use Rattle.model.specs.declared.Ring.{Ring}
 use Rattle.model.specs.declared.Word.{Word}
 use Rattle.model.specs.Lists.{keep, any_of}
-use Rattle.model.specs.Plant.{next}
 use Rattle.model.specs.Choosing.{plan, choices}
 use Rattle.model.specs.Sheet.{closing, sheet_of, written}
 use Rattle.model.specs.Reports.{all_fit, health_of, commands_of, command_places, blank_ring, planned, with_plan, told}
@@ -17,7 +16,6 @@ use Rattle.model.specs.Answers.{all_dark}
 use Rattle.model.specs.Scans.{scan_reports, told_all, first_refusal}
 use Rattle.model.specs.States.{unloaded, told_state, StateReply, served_by, refused_by}
 use Rattle.demands.specs.Statements.Demand3.{Controller}
-use Rattle.designs.specs.Designs.{right}
 use Rattle.designs.specs.Spoilt.{
   start_spoilt,
   step_spoilt,

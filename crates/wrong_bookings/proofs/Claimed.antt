@@ -1,117 +1,10 @@
 -- The controllers that are wrong about bookings, each with the claim that it is held to fail and the calls that show it.
-use Rattle.std.specs.Prelude.{◌≡◌, refl, true, ℕ, zero, suc, eqb}
-use mathlib.Core.List.{List, [], ◌∷◌, ◌++◌, flat_map}
+use Rattle.std.specs.Prelude.{ℕ, zero, suc, eqb}
+use mathlib.Core.List.{List, [], ◌∷◌, ◌++◌}
 use Rattle.model.specs.declared.Booking.{Booking}
-use Rattle.model.specs.Lists.{below, keep, first, any_of, all_of, ◌∈◌, sum}
-use Rattle.model.specs.Values.{same_part, part_code}
-use Rattle.model.specs.Plant.{parts, bus_feed, health_of_kind, next, up, arc, connected, feeds, feeders, feed_by}
-use Rattle.model.specs.Priority.{sources, path_bus_breakers, path_parts, paths, others, path_breakers, high_rises, paths_from}
-use Rattle.model.specs.Choosing.{
-  on_paths,
-  permitted,
-  add_path,
-  plan,
-  commands,
-  choice_of,
-  choices,
-  usable,
-  counted_closed,
-  isolated,
-  choose,
-  chosen,
-}
-use Rattle.model.specs.Sheet.{opening, first_occurrences, parts_of, sequence, closing, sheet_of, sheet, written}
-use Rattle.model.specs.Reports.{
-  reported,
-  places,
-  health_of,
-  commands_of,
-  command_places,
-  blank_ring,
-  planned,
-  with_plan,
-  told,
-  part_named,
-  health_places,
-}
-use Rattle.model.specs.Refusals.{
-  first_met,
-  size_outside,
-  health_outside,
-  active_above,
-  locked_above,
-  unplanned,
-  bad_ring,
-  bus_outside,
-  count_above,
-  too_short,
-  next_sheet,
-  report_conditions,
-  sheet_refusal,
-  start_refusal,
-  step_refusal,
-  not_of_ring,
-  word_of_other_kind,
-}
-use Rattle.model.specs.Answers.{all_dark}
-use Rattle.model.specs.Scans.{told_all, first_refusal, scan_refusal}
-use Rattle.model.specs.Bookings.{
-  live_bookings,
-  with_figures,
-  with_booking,
-  without_booking,
-  watts_outside,
-  is_live,
-  no_place,
-  bad_load,
-  no_load,
-  total_watts,
-  watts_of,
-  live_twice,
-  booking_outside,
-  other_figures,
-}
-use Rattle.model.specs.States.{
-  unloaded,
-  told_state,
-  reckoned,
-  bad_record,
-  state_refusal,
-  served_state,
-  state_start,
-  state_step,
-  state_scan,
-  book_refusal,
-  cancel_refusal,
-  book_answer,
-  cancel_answer,
-  refused_state,
-}
-use Rattle.demands.specs.Statements.Demand3.{
-  decode,
-  Call,
-  step,
-  scan,
-  book,
-  cancel,
-  Calls,
-  nothing,
-  ◌then◌,
-  ◌also◌,
-  noted,
-  Demand3,
-  after_word,
-  after_words,
-  perform,
-  perform_all,
-  command_named,
-  with_operation,
-  operations,
-  phases_at,
-  word_refusal,
-}
-use Rattle.demands.proofs.Proofs.Answering.{full_room, call_number}
-use Rattle.demands.proofs.Proofs.Booking.{booking_number}
+use Rattle.model.specs.Bookings.{live_bookings, with_booking, watts_outside, is_live, no_place, no_load}
+use Rattle.demands.specs.Statements.Demand3.{Call, step, scan, book, cancel, Calls, nothing, ◌then◌, ◌also◌}
+use Rattle.demands.proofs.Proofs.Answering.{full_room}
 use Rattle.demands.proofs.Refuting.Claims as claim
 use Rattle.demands.proofs.Refuting.Claims.{
   fails3,
@@ -146,61 +39,10 @@ use Rattle.demands.proofs.Refuting.Claims.{
   at_booking,
 }
 use Rattle.demands.proofs.Refuting.Facts.{generator1_off, breaker1_closed, breaker2_open}
-use Rattle.demands.proofs.Refuting.Runs.{ordered, both_phases, world_after, after_call, after_booking, run}
-use Rattle.designs.specs.Spoilt.{
-  start_spoilt,
-  step_spoilt,
-  scan_spoilt,
-  bookings_spoilt,
-  when_refused,
-  when_served,
-  when_not_booked,
-  when_booked,
-  of_ring,
-  of_load,
-  with_state,
-  with_load,
-  with_choices,
-  giving_state,
-  start_refusing,
-  start_serving,
-  step_refusing,
-  step_serving,
-  scan_refusing,
-  scan_serving,
-  mended_ring,
-  idle_ring,
-}
+use Rattle.designs.specs.Spoilt.{when_booked, of_ring, with_load, giving_state, start_refusing, start_serving, step_refusing, step_serving, scan_refusing, scan_serving, mended_ring, idle_ring}
 use Rattle.designs.specs.Instances.{generator2_off, generator3_off, generator4_off, starting, calling, scan_of, two_faults, booking_after, ending}
-use Rattle.designs.specs.Rows.{Row3, row, refuted3}
-use Rattle.designs.proofs.Rows.{none_of_3}
-use Rattle.wrong_bookings.specs.Controllers.{
-  book_spoilt,
-  cancel_spoilt,
-  book_giving,
-  cancel_giving,
-  dark_left_out,
-  by_own_generator,
-  watt_above,
-  holding,
-  figures_stay_in_steps,
-  figures_stay_in_scans,
-  figures_stay_in_bookings,
-  counts_cancelled,
-  keeps_cancelled,
-  empties_places,
-  counts_one_more,
-  forgets_bookings,
-  places_serve_once,
-  asks_every_place,
-  serves_bookings,
-  serves_cancellations,
-  refuses_first,
-  refuses_cancellations,
-  book_refusing,
-  cancel_refusing,
-  sheds_load,
-}
+use Rattle.designs.specs.Rows.{Row3, row}
+use Rattle.wrong_bookings.specs.Controllers.{book_spoilt, cancel_spoilt, book_giving, dark_left_out, by_own_generator, watt_above, holding, figures_stay_in_steps, figures_stay_in_scans, figures_stay_in_bookings, counts_cancelled, keeps_cancelled, empties_places, counts_one_more, forgets_bookings, places_serve_once, asks_every_place, serves_bookings, serves_cancellations, refuses_first, refuses_cancellations, book_refusing, cancel_refusing, sheds_load}
 
 -- a booking
 abbrev pub booking : ℕ → ℕ → ℕ → Booking

@@ -1,15 +1,14 @@
 -- Controllers that are wrong about bookings (document 02, Note 5): the right one spoilt in what it gives of them.
-use Rattle.std.specs.Prelude.{Bool, cond, List, ◌++◌, map, ℕ, suc, eqb, take, drop, get_or, set}
+use Rattle.std.specs.Prelude.{Bool, cond, List, ◌++◌, map, ℕ, suc, eqb, take, drop, get_or, set, Ok}
 use Rattle.model.specs.declared.Booking.{Booking}
 use Rattle.model.specs.declared.Load.{Load}
 use Rattle.model.specs.declared.RingState.{RingState}
-use Rattle.model.specs.declared.Outcome.TheVariants as outcome
 use Rattle.model.specs.declared.BookingAnswer.{BookingAnswer}
 use Rattle.model.specs.Lists.{keep}
 use Rattle.model.specs.Reports.{places}
 use Rattle.model.specs.Answers.{all_dark}
 use Rattle.model.specs.Bookings.{live_bookings, no_booking, total_watts, with_booking, without_booking, is_live, no_place}
-use Rattle.model.specs.States.{reckoned}
+use Rattle.model.specs.States.{reckoned, refused_booking}
 use Rattle.demands.specs.Statements.Demand3.{Controller}
 use Rattle.designs.specs.Spoilt.{
   step_spoilt,
@@ -26,10 +25,10 @@ use Rattle.designs.specs.Spoilt.{
 
 -- served and refused, as answers to a booking or a cancellation
 abbrev pub booked_to : RingState → BookingAnswer
-booked_to state = record { outcome = outcome.Served; state = state }
+booked_to state = record { outcome = Ok tt; state = state }
 
 abbrev pub turned_away : ℕ → RingState → BookingAnswer
-turned_away k state = record { outcome = outcome.Refused k; state = state }
+turned_away = refused_booking
 
 -- bookings alone, or cancellations alone
 unfoldable pub book_spoilt : (RingState → Booking → BookingAnswer → BookingAnswer) → Controller
