@@ -4,4 +4,4 @@ use Rattle.appending.specs.Parts.{appended_part}
 use Rattle.appending.proofs.append.Goals as goal
 
 pub returns : goal.returns
-returns c = rw c.copy_from_slice.ensures.after (appended_part c.args.bytes.now c.args.out.now c.args.at _ (omega arith) (omega (arith, c.requires)) (omega arith))
+returns c = appended_part c.args.bytes.now c.args.out.now c.args.at _ c.copy_from_slice.ensures.after (omega arith) (omega (arith, c.requires)) (omega arith)
