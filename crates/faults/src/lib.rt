@@ -51,10 +51,15 @@ pub fn failed(n: usize, health: Health, p: usize) -> Health
 {
     let mut after = health;
     match part_at(n, p) {
-        Part::Generator(number) => after.generators[number as usize - 1] = STUCK_OFF,
-        Part::GeneratorBreaker(number) => after.generator_breakers[number as usize - 1] =
-            STUCK_OPEN,
-        Part::BusBreaker(number) => after.bus_breakers[number as usize - 1] = STUCK_OPEN,
+        Part::Generator(number) => {
+            after.generators[number as usize - 1] = STUCK_OFF;
+        }
+        Part::GeneratorBreaker(number) => {
+            after.generator_breakers[number as usize - 1] = STUCK_OPEN;
+        }
+        Part::BusBreaker(number) => {
+            after.bus_breakers[number as usize - 1] = STUCK_OPEN;
+        }
     }
     after
 }
