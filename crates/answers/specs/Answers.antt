@@ -1,10 +1,9 @@
 -- Reports and answers in the bytes of a stored case (tests/make_vectors.py).
-use Rattle.std.specs.Prelude.{◌≡◌, List, ◌≢◌, ◌⊎◌, ℕ, ◌+◌, ◌*◌, ◌<◌, ◌≤◌, length, get_or, set}
-use Rattle.std.proofs.Common.{sym, ◌∙◌, ap, inl, inr, arith, length-set, ext_get_or, get_or-set_same, get_or-set_other, below_more}
+use Rattle.std.specs.Prelude.{◌≡◌, List, ℕ, ◌+◌, ◌*◌, ◌<◌, length, get_or}
+use Rattle.std.proofs.Common.{sym, ap, arith, below_more}
 use Rattle.model.specs.declared.Part.{Part}
 use Rattle.model.specs.declared.Part.TheVariants.{Generator, GeneratorBreaker, BusBreaker}
 use Rattle.model.specs.declared.Word.{Word}
-use Rattle.model.specs.declared.Word.TheVariants.{Fit}
 use Rattle.model.specs.declared.WordAnswer.TheVariants.{Named}
 use Rattle.model.specs.declared.Report.{Report}
 use Rattle.model.specs.declared.Scan.{Scan}
@@ -17,7 +16,6 @@ use Rattle.model.specs.Values.{number, first_code, word_number, choice_source, c
 use Rattle.model.specs.Plant.{largest}
 use Rattle.model.specs.Reports.{word_named}
 use Rattle.model.specs.Answers.{word_answer}
-use Rattle.model.specs.Laws.Tests.{dec_eq}
 use Rattle.words.specs.Words.{number_names}
 use Rattle.loads.specs.Loads.{state_at}
 
@@ -98,40 +96,3 @@ pub choices_more : (n : ℕ) (case : List ℕ) (from : ℕ) (cs : List BusChoice
     → ChoicesIn (n + 1) case from cs
 choices_more n case from cs =
     below_more (λ b. ChoiceIn (get_or case (from + 2 * b) 0) (get_or case (from + 2 * b + 1) 0) (get_or cs b (record { choice = Dark }))) n
-
--- ---- the places of a scan
-
--- the array ls has 64 places, and below place i those of every scan that stands from an index on
-pub record Placed (case : List ℕ) (from i : ℕ) (ls : List Report) : Type 0 where
-  pub sized : length ls ≡ 64
-  pub alike : (s : Scan) → ScanIn case from s → (k : ℕ) → k < i → (d : Report) → get_or ls k d ≡ get_or s.reports k d
-
-module _ (case : List ℕ) (from i : ℕ) (ls : List Report) where
-  pub placed_none : length ls ≡ 64 → i ≡ 0 → Placed case from i ls
-  placed_none e z = record { sized = e; alike = λ s h k l d. absurd (omega arith) }
-
-  -- one place more: j is the index that the code stores at, at the index that it reads from
-  pub placed_more : (j at : ℕ) (r : Report) → j ≡ i → at ≡ from + 1 + 3 * i → i < 64
-      → ((x : Report) → ReportIn case at x → r ≡ x) → Placed case from i ls → Placed case from (i + 1) (set ls j r)
-  placed_more j at r e f h is p = record { sized = rw length-set p.sized; alike = alike }
-    where
-      alike : (s : Scan) → ScanIn case from s → (k : ℕ) → k < i + 1 → (d : Report) → get_or (set ls j r) k d ≡ get_or s.reports k d
-      alike s g k l d = go (dec_eq k j)
-        where
-          below : (k ≡ i) ⊎ (k ≢ i) → k ≢ j → k < i
-          below (inl y) z = absurd (z (y ∙ sym e))
-          below (inr y) z = omega arith
-
-          go : (k ≡ j) ⊎ (k ≢ j) → get_or (set ls j r) k d ≡ get_or s.reports k d
-          go (inl z) =
-              let here : ReportIn case at (get_or s.reports k d) = rw (f, ← e, ← z) (g.reports k (omega arith) d) in
-              let stored : get_or (set ls j r) k d ≡ r = rw z (get_or-set_same ls j r d (omega (arith, p.sized))) in
-              stored ∙ is _ here
-          go (inr z) = let l₁ : k < i = below (dec_eq k i) z in get_or-set_other ls j k r d z ∙ p.alike s g k l₁ d
-
-  -- all places
-  pub placed_all : 64 ≤ i → Placed case from i ls → (s : Scan) → ScanIn case from s → ls ≡ s.reports
-  placed_all h p s g = ext_list s.reports (p.sized ∙ sym g.full) (λ k l d. p.alike s g k (omega (arith, p.sized)) d)
-    where
-      ext_list : (ys : List Report) → length ls ≡ length ys → ((k : ℕ) → k < length ls → (d : Report) → get_or ls k d ≡ get_or ys k d) → ls ≡ ys
-      ext_list ys e same = ext_get_or (record { part = Generator 0; word = Fit }) ls ys e (λ k l. same k l _)

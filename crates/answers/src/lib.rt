@@ -14,6 +14,7 @@ use model::{
     BookingAnswer, BusChoice, Choice, Outcome, Part, Report, RingState, Scan, StateAnswer, Word,
     WordAnswer,
 };
+use std::array;
 
 // A part by the number of its kind and its own.
 fn part_of(kind: u8, number: u8) -> Part
@@ -53,11 +54,7 @@ fn reports_at(case: &[u8], from: usize) -> [Report; 64]
     requires { from + 193 ≤ length case.now }
     ensures { (s : Scan) → ScanIn case.now from s → result ≡ s.reports }
 {
-    let mut reports = [report_at(case, from + 1); 64];
-    for i in 0..64 {
-        reports[i] = report_at(case, from + 1 + 3 * i);
-    }
-    reports
+    array::from_fn(|i| report_at(case, from + 1 + 3 * i))
 }
 
 // The scan that stands from an index on: its count, then its places.

@@ -24,35 +24,27 @@ pub fn watts_outside(watts: u32) -> bool
     watts < 1 || 100000 < watts
 }
 
-// 13: whether a number is live. An inner call, as those below: at most 64 are live, which its callers have checked.
+// The live bookings, in the order of their places. An inner call, as those below: at most 64 are live, which its callers have checked.
+pub fn live(load: &Load) -> &[Booking]
+    requires { load.now.live ≤ 64 }
+    ensures { result.now ≡ live_bookings load.now }
+{
+    &load.bookings[..load.live as usize]
+}
+
+// Whether one of some bookings has a number.
+fn has_number(bookings: &[Booking], number: u16) -> bool
+    ensures { result ≡ is_live bookings.now «number» }
+{
+    bookings.iter().any(|booking| booking.number == number)
+}
+
+// 13: whether a number is live.
 pub fn is_live(load: Load, number: u16) -> bool
     requires { load.live ≤ 64 }
     ensures { result ≡ is_live (live_bookings load) «number» }
 {
-    let live = load.live as usize;
-    for i in 0..live {
-        let booking = load.bookings[i];
-        if booking.number == number {
-            return true;
-        }
-    }
-    false
-}
-
-// Whether the number of a live booking is that of a later one too.
-fn live_later(load: Load, place: usize) -> bool
-    requires { (load.live ≤ 64) × (place < load.live) }
-    ensures { result ≡ is_live (drop (suc place) (live_bookings load)) (get_or load.bookings place no_booking).number }
-{
-    let live = load.live as usize;
-    let first = load.bookings[place];
-    for i in place + 1..live {
-        let booking = load.bookings[i];
-        if booking.number == first.number {
-            return true;
-        }
-    }
-    false
+    has_number(live(&load), number)
 }
 
 // 9: "a number live twice"
@@ -60,31 +52,29 @@ pub fn live_twice(load: Load) -> bool
     requires { load.live ≤ 64 }
     ensures { result ≡ live_twice (live_bookings load) }
 {
-    let live = load.live as usize;
-    for place in 0..live {
-        if live_later(load, place) {
+    let bookings = live(&load);
+    for (place, booking) in bookings.iter().enumerate() {
+        if has_number(&bookings[place + 1..], booking.number) {
             return true;
         }
     }
     false
 }
 
-// 9: "a bus or watts outside these bounds"
+// 9: "a bus or watts outside these bounds", of a booking.
+#[tactic(auto, unfolding(model::specs::Bookings::booking_outside))]
+fn is_outside(n: u8, booking: &Booking) -> bool
+    ensures { result ≡ booking_outside n booking.now }
+{
+    components::bus_outside(n, booking.bus) || watts_outside(booking.watts)
+}
+
+// .. and of some live booking.
 pub fn any_outside(n: u8, load: Load) -> bool
     requires { load.live ≤ 64 }
     ensures { result ≡ any_of (booking_outside n) (live_bookings load) }
 {
-    let count = load.live as usize;
-    for i in 0..count {
-        let booking = load.bookings[i];
-        if components::bus_outside(n, booking.bus) {
-            return true;
-        }
-        if watts_outside(booking.watts) {
-            return true;
-        }
-    }
-    false
+    live(&load).iter().any(|booking| is_outside(n, booking))
 }
 
 // "Programme staff book equipment on a bus": a booking more, in the first place behind the live ones. An inner call: there is one.
@@ -104,13 +94,11 @@ pub fn without_booking(load: Load, number: u16) -> Load
     requires { (load.live ≤ 64) × (is_live (live_bookings load) «number» ≡ true) }
     ensures { result ≡ without_booking load «number» }
 {
-    let before = load.live as usize;
     let mut bookings = load.bookings;
     let mut kept = 0u8;
-    for i in 0..before {
-        let booking = load.bookings[i];
+    for booking in live(&load) {
         if booking.number != number {
-            bookings[kept as usize] = booking;
+            bookings[kept as usize] = *booking;
             kept += 1;
         }
     }

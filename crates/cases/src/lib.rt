@@ -7,17 +7,14 @@ ghost use Rattle.model.specs.Values.{outcome_number};
 ghost use Rattle.cases.specs.Cases.{bytes_at, bools_at, health_at, commands_at, ring_at};
 
 use model::{Commands, Health, Outcome, Ring};
+use std::array;
 
 // Twenty bytes of a case.
 pub fn bytes_at(case: &[u8], from: usize) -> [u8; 20]
     requires { from + 20 ≤ length case.now }
     ensures { result ≡ bytes_at case.now from }
 {
-    let mut bytes = [0u8; 20];
-    for i in 0..20 {
-        bytes[i] = case[from + i];
-    }
-    bytes
+    array::from_fn(|i| case[from + i])
 }
 
 // Twenty commands or locks of a case: 1 is on or closed, or locked.
@@ -25,11 +22,7 @@ pub fn bools_at(case: &[u8], from: usize) -> [bool; 20]
     requires { from + 20 ≤ length case.now }
     ensures { result ≡ bools_at case.now from }
 {
-    let mut bools = [false; 20];
-    for i in 0..20 {
-        bools[i] = case[from + i] == 1;
-    }
-    bools
+    array::from_fn(|i| case[from + i] == 1)
 }
 
 // The health of every part, a byte each, then "the lock beside the health" (document 02, Note 7) of every generator.

@@ -1,2 +1,3 @@
--- The laws of tests, by cases of what is tested.
+-- The laws of tests, by cases of what is tested, and of searches.
 pub mod Tests
+pub mod Searches

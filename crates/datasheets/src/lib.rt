@@ -7,6 +7,7 @@ ghost use Rattle.std.specs.Float.Ieee.{of_bits};
 ghost use Rattle.datasheets.specs.Rates.{bits_at, float_at, rate_by, rate_at, twenty_at, rates_at};
 
 use model::{PartRate, Rate, Rates};
+use std::array;
 
 // A number of eight bytes, low byte first: the bits of a float.
 pub fn bits_at(case: &[u8], from: usize) -> u64
@@ -63,13 +64,7 @@ fn twenty_at(case: &[u8], from: usize) -> [PartRate; 20]
     requires { from + 180 ≤ length case.now }
     ensures { result ≡ twenty_at case.now from }
 {
-    let mut rates = [PartRate {
-        rate: Rate::Unrated,
-    }; 20];
-    for i in 0..20 {
-        rates[i] = rate_at(case, from + 9 * i);
-    }
-    rates
+    array::from_fn(|i| rate_at(case, from + 9 * i))
 }
 
 // The rate of every part.

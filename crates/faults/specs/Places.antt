@@ -10,7 +10,7 @@ use Rattle.model.specs.declared.Part.{Part}
 use Rattle.model.specs.declared.Part.TheVariants.{Generator, GeneratorBreaker, BusBreaker}
 use Rattle.model.specs.declared.Health.{Health}
 use Rattle.model.specs.Lists.{below}
-use Rattle.model.specs.Values.{number, same_part}
+use Rattle.model.specs.Values.{number, index, same_part}
 use Rattle.model.specs.Plant.{generator, generator_breaker, bus_breaker, parts, stuck_open}
 use Rattle.model.specs.Reports.{at_number, health_of, reported}
 use Rattle.model.specs.CutSets.{with_faults}
@@ -35,6 +35,15 @@ module _ (n p : ℕ) where
   pub in_third : n + n ≤ p → part_at n p ≡ bus_breaker (p - (n + n))
   unfolding part_at
   in_third l = let k : n ≤ p = omega arith in rw (le-ltb p n k, le-ltb p (n + n) l)
+
+-- ---- a part's number, from 1, and its place among those of its kind
+
+pub index_less : (k : ℕ) → index k ≡ k - 1
+index_less zero = refl
+index_less (suc k) = omega arith
+
+pub numbered_from : (k : ℕ) → 1 ≤ k → k ≡ suc (k - 1)
+numbered_from k l = omega arith
 
 -- ---- a breaker that is not stuck open, however the code words its test
 

@@ -30,10 +30,10 @@ unfolding written
 written_whole xs l e = rw (e, drop-length l) (append-nil xs)
 
 -- sizes, codes and commands, stored one after the other over the whole of the bytes
-pub laid_out : (xs ys : List ℕ) (m k : ℕ) {l l' : List ℕ} {o c j : ℕ} → length xs ≡ o → length ys ≡ c → length l ≡ 2 + 2 * (o + c)
-    → Appended (o ∷ c ∷ (xs ++ ys ++ replicate m 0 ++ replicate k 1)) l 0 l' j → m ≡ o → k ≡ c → l' ≡ layout xs ys
+pub laid_out : (xs ys : List ℕ) {l l' : List ℕ} {o c j : ℕ} → length xs ≡ o → length ys ≡ c → length l ≡ 2 + 2 * (o + c)
+    → Appended (o ∷ c ∷ (xs ++ ys ++ replicate o 0 ++ replicate c 1)) l 0 l' j → l' ≡ layout xs ys
 unfolding layout
-laid_out xs ys m k {l} {l'} {j = j} p q h a e f =
-    let b : Appended (layout xs ys) l 0 l' j = rw (p, q) (rw (e, f) at a) in
+laid_out xs ys {l} {l'} {j = j} p q h a =
+    let b : Appended (layout xs ys) l 0 l' j = rw (p, q) a in
     let full : length (layout xs ys) ≡ length l = omega (arith, layout_length xs ys) in
     appended_written b (omega arith) ∙ written_whole (layout xs ys) l full

@@ -5,6 +5,7 @@ ghost use Rattle.std.specs.Prelude.{◌≡◌, ◌+◌, ◌*◌, ◌≤◌, leng
 ghost use Rattle.loads.specs.Loads.{number_at, watts_at, booking_at, bookings_at, figures_at, load_at, state_at};
 
 use model::{Booking, Load, RingState};
+use std::array;
 
 // The number of a low byte and a high one.
 fn number_of(low: u8, high: u8) -> u16
@@ -48,11 +49,7 @@ fn bookings_at(case: &[u8], from: usize) -> [Booking; 64]
     requires { from + 448 ≤ length case.now }
     ensures { result ≡ bookings_at case.now from }
 {
-    let mut bookings = [booking_at(case, from); 64];
-    for i in 0..64 {
-        bookings[i] = booking_at(case, from + 7 * i);
-    }
-    bookings
+    array::from_fn(|i| booking_at(case, from + 7 * i))
 }
 
 // The watts of twenty generators.
@@ -60,11 +57,7 @@ fn figures_at(case: &[u8], from: usize) -> [u32; 20]
     requires { from + 80 ≤ length case.now }
     ensures { result ≡ figures_at case.now from }
 {
-    let mut watts = [0u32; 20];
-    for g in 0..20 {
-        watts[g] = watts_at(case, from + 4 * g);
-    }
-    watts
+    array::from_fn(|g| watts_at(case, from + 4 * g))
 }
 
 // A load: how many bookings are live, the 64 places, the watts of twenty generators and those on dark buses.

@@ -1,9 +1,9 @@
 -- How many faults leave a bus dark: at least one for each of its paths that have no part in common. Buses are indices from 0.
-use Rattle.std.specs.Prelude.{◌≡◌, refl, Bool, not, ◌⊎◌, ◌≢◌, List, [], ◌∷◌, ℕ, ◌+◌, ◌≤◌, ◌<◌, length}
+use Rattle.std.specs.Prelude.{◌≡◌, refl, Bool, not, cond, ltb, ◌⊎◌, ◌≢◌, List, [], ◌∷◌, ℕ, ◌+◌, ◌≤◌, ◌<◌, length, Option, Some, None}
 use Rattle.std.proofs.Common.{sym, ◌∙◌, ap, inl, inr, arith}
 use Rattle.std.proofs.Math.Bool.{true, false}
 use mathlib.Core.List.Memᴰ
-use borrow.Author.Tests.{not-true, eq-eqb, ne_eqb, lt-ltb, le-ltb}
+use borrow.Author.Tests.{not-true, lt-ltb, le-ltb}
 use Rattle.model.specs.declared.Part.{Part}
 use Rattle.model.specs.Lists.{is_none, ◌∈◌}
 use Rattle.model.specs.Plant.{PartHealth, generator_breaker, bus_breaker, fit_generator, stuck_open, up, Reaches}
@@ -30,7 +30,7 @@ use Rattle.theory.specs.Theorems.Connected.{Arc, leads_arcs}
 use Rattle.theory.proofs.Theorems.CutSets.{dark_exactly, Supplies, Disjoint, no_path, one_more_path, disjoint_faults}
 use Rattle.sources.specs.Sources.{may_feed}
 use Rattle.walks.specs.Walk.{Closed}
-use Rattle.outages.specs.Sides.{passable, Leading, Met, found_at, side_paths, steps_some}
+use Rattle.outages.specs.Sides.{passable, Leading, Met, side_paths, steps_some}
 
 -- no set of fewer than k further faults leaves bus b dark; where k is 0, it is dark
 pub record Least (n : ℕ) (H : PartHealth) (b k : ℕ) : Type 0 where
@@ -149,42 +149,43 @@ module _ (n : ℕ) (H : PartHealth) (b : ℕ) (hb : b < n) where
     supplying = all_cons Other s (all_cons Other t (λ u m. absurd (Memᴰ.not-nil m)));
   }
 
-  module _ (rise fall : ℕ) (up_side : Met n H true b rise) (down_side : Met n H false b fall) where
-    side_paths_lem : SidePaths (side_paths n rise fall)
-    unfolding side_paths found_at
-    side_paths_lem = go (dec_lt (rise + fall) n) (dec_eq rise 0) (dec_eq fall 0)
-      where
-        go : (rise + fall < n) ⊎ (n ≤ rise + fall) → (rise ≡ 0) ⊎ (rise ≢ 0) → (fall ≡ 0) ⊎ (fall ≢ 0) → SidePaths (side_paths n rise fall)
-        go (inl l) (inl e) (inl f) = rw (lt-ltb (rise + fall) n l, eq-eqb rise 0 e, eq-eqb fall 0 f) (record {
-          found = [];
-          count = refl;
-          apart = no_path;
-          supplying = λ w m. absurd (Memᴰ.not-nil m);
-        })
-        go (inl l) (inl e) (inr f) =
-            let t = down_side.found (omega (arith, f)) in
-            rw (lt-ltb (rise + fall) n l, eq-eqb rise 0 e, ne_eqb fall 0 f)
-            (one_path (path_to b t.0 true) (side_supplies false t.0 t.1, t.1.other))
-        go (inl l) (inr e) (inl f) =
-            let t = up_side.found (omega (arith, e)) in
-            rw (lt-ltb (rise + fall) n l, ne_eqb rise 0 e, eq-eqb fall 0 f)
-            (one_path (path_to b t.0 false) (side_supplies true t.0 t.1, t.1.other))
-        go (inl l) (inr e) (inr f) =
-            let t = up_side.found (omega (arith, e)) in
-            let u = down_side.found (omega (arith, f)) in
-            rw (lt-ltb (rise + fall) n l, ne_eqb rise 0 e, ne_eqb fall 0 f)
-            (two_paths (path_to b t.0 false) (path_to b u.0 true)
-            (side_supplies true t.0 t.1, t.1.other)
-            (side_supplies false u.0 u.1, u.1.other)
-            (sides_apart t.0 u.0 t.1.inside u.1.inside t.1.other (omega (arith, t.2, u.2))))
-        go (inr l) x y =
-            let t = up_side.found (omega (arith, down_side.short)) in
-            rw (le-ltb (rise + fall) n l) (one_path (path_to b t.0 false) (side_supplies true t.0 t.1, t.1.other))
+  side_paths_lem : (rise fall : Option ℕ) → Met n H true b rise → Met n H false b fall → SidePaths (side_paths n rise fall)
+  side_paths_lem None None u d = record {
+    found = [];
+    count = refl;
+    apart = no_path;
+    supplying = λ w m. absurd (Memᴰ.not-nil m);
+  }
+  side_paths_lem None (Some fall) u d = let t = d.found in one_path (path_to b t.0 true) (side_supplies false t.0 t.1, t.1.other)
+  side_paths_lem (Some rise) None u d = let t = u.found in one_path (path_to b t.0 false) (side_supplies true t.0 t.1, t.1.other)
+  side_paths_lem (Some rise) (Some fall) u d = go (dec_lt (rise + fall) n)
+    where
+      go : (rise + fall < n) ⊎ (n ≤ rise + fall) → SidePaths (cond (ltb (rise + fall) n) 2 1)
+      go (inl l) =
+          let t = u.found in
+          let s = d.found in
+          rw (lt-ltb (rise + fall) n l)
+          (two_paths (path_to b t.0 false) (path_to b s.0 true)
+          (side_supplies true t.0 t.1, t.1.other)
+          (side_supplies false s.0 s.1, s.1.other)
+          (sides_apart t.0 s.0 t.1.inside s.1.inside t.1.other (omega (arith, t.2, s.2))))
+      go (inr l) = let t = u.found in rw (le-ltb (rise + fall) n l) (one_path (path_to b t.0 false) (side_supplies true t.0 t.1, t.1.other))
 
+  none_beside : (rise fall : Option ℕ) → side_paths n rise fall ≡ 0 → (rise ≡ None) × (fall ≡ None)
+  none_beside None None z = (refl, refl)
+  none_beside None (Some fall) z = absurd (omega arith)
+  none_beside (Some rise) None z = absurd (omega arith)
+  none_beside (Some rise) (Some fall) z = go (dec_lt (rise + fall) n)
+    where
+      go : (rise + fall < n) ⊎ (n ≤ rise + fall) → (Some rise ≡ None) × (Some fall ≡ None)
+      go (inl l) = absurd (omega (arith, rw (lt-ltb (rise + fall) n l) at z))
+      go (inr l) = absurd (omega (arith, rw (le-ltb (rise + fall) n l) at z))
+
+  module _ (rise fall : Option ℕ) (up_side : Met n H true b rise) (down_side : Met n H false b fall) where
     -- with the bus's own generator
     pub least_own : (k : ℕ) → may_feed H b ≡ true → k ≡ side_paths n rise fall + 1 → Least n H b k
     least_own k e is =
-        let t = side_paths_lem in
+        let t = side_paths_lem rise fall up_side down_side in
         record {
           bound = λ S d.
               let c = disjoint_faults n H b hb S d {ws = own_path b ∷ t.found}
@@ -194,38 +195,34 @@ module _ (n : ℕ) (H : PartHealth) (b : ℕ) (hb : b < n) where
           dark = λ z. absurd (omega arith);
         }
 
-    none_beside : side_paths n rise fall ≡ 0 → (rise ≡ 0) × (fall ≡ 0)
-    unfolding side_paths found_at
-    none_beside z = go (dec_lt (rise + fall) n) (dec_eq rise 0) (dec_eq fall 0)
-      where
-        go : (rise + fall < n) ⊎ (n ≤ rise + fall) → (rise ≡ 0) ⊎ (rise ≢ 0) → (fall ≡ 0) ⊎ (fall ≢ 0) → (rise ≡ 0) × (fall ≡ 0)
-        go (inl l) (inl e) (inl f) = (e, f)
-        go (inl l) (inl e) (inr f) = absurd (omega (arith, rw (lt-ltb (rise + fall) n l, eq-eqb rise 0 e, ne_eqb fall 0 f) at z))
-        go (inl l) (inr e) f = absurd (omega (arith, rw (lt-ltb (rise + fall) n l, ne_eqb rise 0 e) at z))
-        go (inr l) x y = absurd (omega (arith, rw (le-ltb (rise + fall) n l) at z))
-
     -- without it
     pub least_sides : (k : ℕ) → may_feed H b ≡ false → k ≡ side_paths n rise fall → Least n H b k
     unfolding may_feed
     least_sides k e is =
-        let t = side_paths_lem in
+        let t = side_paths_lem rise fall up_side down_side in
         record {
           bound = λ S d.
               let c = disjoint_faults n H b hb S d {ws = t.found} t.apart (λ v m. (t.supplying v m).0) in
               omega (arith, t.count);
-          dark = λ z. (dark_exactly n H b hb).1 (λ g r. unreached (none_beside (sym is ∙ z)) g r (dec_eq g b));
+          dark = λ z. (dark_exactly n H b hb).1 (λ g r. unreached (none_beside rise fall (sym is ∙ z)) g r (dec_eq g b));
         }
       where
         feeds : (g : ℕ) → Reaches n H b g → may_feed H g ≡ true
         feeds g r = and_intro (fit_generator H g) _ r.runs (not_of (stuck_open (H.health (generator_breaker g))) r.breaker)
 
-        unreached : (rise ≡ 0) × (fall ≡ 0) → (g : ℕ) → Reaches n H b g → (g ≡ b) ⊎ (g ≢ b) → ⊥
+        none_above : rise ≡ None → Met n H true b None
+        none_above e = rw e at up_side
+
+        none_below : fall ≡ None → Met n H false b None
+        none_below e = rw e at down_side
+
+        unreached : (rise ≡ None) × (fall ≡ None) → (g : ℕ) → Reaches n H b g → (g ≡ b) ⊎ (g ≢ b) → ⊥
         unreached z g r (inl q) = contra (feeds g r) (rw q e)
         unreached z g r (inr q) = side (leads_arcs hb r.line)
           where
             side : Arc n (passable H) g b ⊎ Arc n (passable H) b g → ⊥
-            side (inl f) = down_side.none z.1 g (record { inside = r.inside; other = q; feeding = feeds g r; line = f })
-            side (inr f) = up_side.none z.0 g (record { inside = r.inside; other = q; feeding = feeds g r; line = f })
+            side (inl f) = none_below z.1 g (record { inside = r.inside; other = q; feeding = feeds g r; line = f })
+            side (inr f) = none_above z.0 g (record { inside = r.inside; other = q; feeding = feeds g r; line = f })
 
 -- dark is 0, exactly: however the code words its test
 pub dark_test : (n : ℕ) (H : PartHealth) (b k : ℕ) {r : Bool} → Least n H b k → (k ≡ 0 → r ≡ false → ⊥) → (k ≢ 0 → r ≡ true → ⊥)

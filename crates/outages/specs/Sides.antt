@@ -1,6 +1,6 @@
 -- The walk out from a bus on one side to the first generator that may feed. Buses and breakers are indices from 0.
-use Rattle.std.specs.Prelude.{◌≡◌, Bool, true, false, not, cond, ◌⊎◌, ◌≢◌, ℕ, suc, ◌+◌, ◌≤◌, ◌<◌, ltb, eqb}
-use Rattle.std.proofs.Common.{sym, ◌∙◌, ap, inl, inr, arith, eq-eqb, ne_eqb, lt-ltb, le-ltb}
+use Rattle.std.specs.Prelude.{◌≡◌, Bool, true, false, not, cond, ◌⊎◌, ◌≢◌, ℕ, suc, ◌+◌, ◌≤◌, ◌<◌, ltb, Option, Some, None}
+use Rattle.std.proofs.Common.{sym, ◌∙◌, ap, inl, inr, arith, eq-eqb, ne_eqb}
 use Rattle.std.proofs.lemmas.Bool.{not-true}
 use Rattle.model.specs.Plant.{PartHealth, bus_breaker, stuck_open, next, up}
 use Rattle.model.specs.Laws.Tests.{contra, not_of, dec_eq, dec_lt}
@@ -37,11 +37,20 @@ pub record Leading (n : ℕ) (H : PartHealth) (r : Bool) (b g : ℕ) : Type 0 wh
   pub feeding : may_feed H g ≡ true
   pub line : Closed n (passable H) r b g
 
--- what is met on one side: the first such generator is so many steps away, or there is none
-pub record Met (n : ℕ) (H : PartHealth) (r : Bool) (b d : ℕ) : Type 0 where
+-- so many steps, if any, are fewer than the ring has buses
+abbrev pub Within : ℕ → Option ℕ → Type 0
+Within n (Some d) = d < n
+Within n None = Unit {0}
+
+-- the first such generator on one side is so many steps away
+pub record MetAt (n : ℕ) (H : PartHealth) (r : Bool) (b d : ℕ) : Type 0 where
   pub short : d < n
-  pub found : 0 < d → (g : ℕ) × Leading n H r b g × (steps n r b g ≡ d)
-  pub none : d ≡ 0 → (g : ℕ) → Leading n H r b g → ⊥
+  pub found : (g : ℕ) × Leading n H r b g × (steps n r b g ≡ d)
+
+-- what is met on one side: that generator, or none
+abbrev pub Met : (n : ℕ) (H : PartHealth) (r : Bool) (b : ℕ) → Option ℕ → Type 0
+Met n H r b (Some d) = MetAt n H r b d
+Met n H r b None = (g : ℕ) → Leading n H r b g → ⊥
 
 -- ---- geometry of the two sides
 
@@ -105,19 +114,19 @@ module _ (n : ℕ) (b : ℕ) (hb : b < n) where
         go (inl m) = absurd (omega (arith, up_past n g k b hg hk hb m, up_lt n g k hg hk))
         go (inr m) = omega (arith, up_previous n g k hg hk ne)
 
--- ---- the walk, at bus k after d steps
+-- ---- the walk, at bus k before step d
 
 pub record Walked (n : ℕ) (H : PartHealth) (r : Bool) (b k d : ℕ) : Type 0 where
   pub at : k < n
-  pub far : steps n r b k ≡ d
+  pub far : suc (steps n r b k) ≡ d
   pub line : Closed n (passable H) r b k
-  pub past : (g : ℕ) → Leading n H r b g → d < steps n r b g
+  pub past : (g : ℕ) → Leading n H r b g → d ≤ steps n r b g
 
 module _ (n : ℕ) (H : PartHealth) (r : Bool) (b : ℕ) (hb : b < n) where
-  pub walked_start : Walked n H r b b 0
+  pub walked_start : Walked n H r b b 1
   walked_start = record {
     at = hb;
-    far = steps_refl n b hb r;
+    far = ap suc (steps_refl n b hb r);
     line = start r;
     past = λ g l. steps_some n b hb r g l.inside l.other;
   }
@@ -126,24 +135,21 @@ module _ (n : ℕ) (H : PartHealth) (r : Bool) (b : ℕ) (hb : b < n) where
       start true = λ i h l. absurd (omega (arith, up_refl n b hb))
       start false = λ i h l. absurd (omega (arith, up_refl n b hb))
 
-  nothing_met : ((g : ℕ) → Leading n H r b g → ⊥) → Met n H r b 0
-  nothing_met f = record { short = omega arith; found = λ l. absurd (omega arith); none = λ e. f }
-
   module _ (k d : ℕ) (w : Walked n H r b k d) where
-    pub walked_open : H.health (bus_breaker (breaker_beside n r k)) ≡ 2 → Met n H r b 0
-    walked_open e = nothing_met (λ g l.
+    pub walked_open : H.health (bus_breaker (breaker_beside n r k)) ≡ 2 → Met n H r b None
+    walked_open e = λ g l.
         contra (eq-eqb (H.health (bus_breaker (breaker_beside n r k))) 2 e)
         (not-true (stuck_open (H.health (bus_breaker (breaker_beside n r k))))
-        (closed_on n b hb (passable H) r k g w.at l.inside l.line (omega (arith, w.far, w.past g l)))))
+        (closed_on n b hb (passable H) r k g w.at l.inside l.line (omega (arith, w.far, w.past g l))))
 
-    pub walked_end : n ≤ d + 1 → Met n H r b 0
-    walked_end h = nothing_met (λ g l. omega (arith, w.past g l, steps_lt n b hb r g l.inside))
+    pub walked_end : n ≤ d → Met n H r b None
+    walked_end h = λ g l. omega (arith, w.past g l, steps_lt n b hb r g l.inside)
 
-    module _ (room : d + 1 < n) (clear : H.health (bus_breaker (breaker_beside n r k)) ≢ 2) where
+    module _ (room : d < n) (clear : H.health (bus_breaker (breaker_beside n r k)) ≢ 2) where
       short : suc (steps n r b k) < n
       short = omega (arith, w.far)
 
-      farther : steps n r b (bus_beside n r k) ≡ d + 1
+      farther : steps n r b (bus_beside n r k) ≡ d
       farther = omega (arith, steps_more n b hb r k w.at short, w.far)
 
       on : Closed n (passable H) r b (bus_beside n r k)
@@ -151,52 +157,37 @@ module _ (n : ℕ) (H : PartHealth) (r : Bool) (b : ℕ) (hb : b < n) where
           closed_more n b hb (passable H) r k w.at short w.line
           (not_of (stuck_open (H.health (bus_breaker (breaker_beside n r k)))) (ne_eqb (H.health (bus_breaker (breaker_beside n r k))) 2 clear))
 
-      pub walked_met : may_feed H (bus_beside n r k) ≡ true → Met n H r b (d + 1)
+      pub walked_met : may_feed H (bus_beside n r k) ≡ true → Met n H r b (Some d)
       walked_met e = record {
         short = room;
-        found = λ l. (
+        found = (
           bus_beside n r k,
           record {
             inside = bus_lt n r k w.at;
-            other = λ z. omega (arith, farther, ap (steps n r b) z, steps_refl n b hb r);
+            other = λ z. omega (arith, farther, ap (steps n r b) z, steps_refl n b hb r, w.far);
             feeding = e;
             line = on;
           },
           farther,
         );
-        none = λ z. absurd (omega arith);
       }
 
       pub walked_on : may_feed H (bus_beside n r k) ≡ false → Walked n H r b (bus_beside n r k) (d + 1)
-      walked_on e = record { at = bus_lt n r k w.at; far = farther; line = on; past = λ g l. go g l (dec_eq (steps n r b g) (d + 1)) }
+      walked_on e = record {
+        at = bus_lt n r k w.at;
+        far = omega (arith, farther);
+        line = on;
+        past = λ g l. go g l (dec_eq (steps n r b g) d);
+      }
         where
-          go : (g : ℕ) → Leading n H r b g → (steps n r b g ≡ d + 1) ⊎ (steps n r b g ≢ d + 1) → d + 1 < steps n r b g
+          go : (g : ℕ) → Leading n H r b g → (steps n r b g ≡ d) ⊎ (steps n r b g ≢ d) → d + 1 ≤ steps n r b g
           go g l (inl z) =
               contra l.feeding (rw (steps_only n b hb r g (bus_beside n r k) l.inside (bus_lt n r k w.at) (z ∙ sym farther)) e)
           go g l (inr z) = omega (arith, w.past g l, z)
 
--- so many steps lead to a generator: 1, or there is none: 0
-unfoldable pub found_at : ℕ → ℕ
-found_at d = cond (eqb d 0) 0 1
-
 -- how many of the paths from the two sides have no part in common: they meet where together they are as long as the ring
-unfoldable pub side_paths : ℕ → ℕ → ℕ → ℕ
-side_paths n rise fall = cond (ltb (rise + fall) n) (found_at rise + found_at fall) 1
-
--- .. by cases of the numbers: however the code words its tests
-pub found_test : (d r : ℕ) → (d ≡ 0 → r ≡ 0) → (d ≢ 0 → r ≡ 1) → r ≡ found_at d
-unfolding found_at
-found_test d r p q = go (dec_eq d 0)
-  where
-    go : (d ≡ 0) ⊎ (d ≢ 0) → r ≡ found_at d
-    go (inl e) = rw (eq-eqb d 0 e) (p e)
-    go (inr e) = rw (ne_eqb d 0 e) (q e)
-
-pub side_test : (n rise fall r : ℕ) → (rise + fall < n → r ≡ found_at rise + found_at fall) → (n ≤ rise + fall → r ≡ 1)
-    → r ≡ side_paths n rise fall
-unfolding side_paths
-side_test n rise fall r apart meet = go (dec_lt (rise + fall) n)
-  where
-    go : (rise + fall < n) ⊎ (n ≤ rise + fall) → r ≡ side_paths n rise fall
-    go (inl l) = rw (lt-ltb (rise + fall) n l) (apart l)
-    go (inr l) = rw (le-ltb (rise + fall) n l) (meet l)
+abbrev pub side_paths : ℕ → Option ℕ → Option ℕ → ℕ
+side_paths n (Some rise) (Some fall) = cond (ltb (rise + fall) n) 2 1
+side_paths n (Some rise) None = 1
+side_paths n None (Some fall) = 1
+side_paths n None None = 0

@@ -6,54 +6,45 @@ ghost use Rattle.std.specs.Prelude.{◌≡◌, ◌≤◌, ◌<◌};
 ghost use Rattle.model.specs.Lists.{is_none};
 ghost use Rattle.model.specs.Choosing.{plan};
 ghost use Rattle.model.specs.Reports.{health_of};
-ghost use Rattle.outages.specs.Sides.{Met, found_at, side_paths};
+ghost use Rattle.outages.specs.Sides.{Met, Within, side_paths};
 ghost use Rattle.outages.specs.Least.{Least};
 
 use model::{Health, STUCK_OPEN};
 
-// How many steps it is from bus b on one side to the first other bus whose generator may feed, over breakers that are not stuck open; 0
-// where there is none.
-fn steps_to_generator(n: usize, health: Health, b: usize, rising: bool) -> usize
+// How many steps it is from bus b on one side to the first other bus whose generator may feed, over breakers that are not stuck open.
+fn steps_to_generator(n: usize, health: Health, b: usize, rising: bool) -> Option<usize>
     requires { (b < n) × (n ≤ 20) }
     ensures { Met n (health_of health) rising b result }
 {
     let mut k = b;
-    let mut steps = 0;
-    while steps + 1 < n {
+    for steps in 1..n {
         let i = walks::breaker_beside(n, k, rising);
         if health.bus_breakers[i] == STUCK_OPEN {
-            return 0;
+            return None;
         }
         k = walks::bus_beside(n, k, rising);
-        steps += 1;
         if sources::may_feed(
             health.generators[k],
             health.locked[k],
             health.generator_breakers[k],
         ) {
-            return steps;
+            return Some(steps);
         }
     }
-    0
-}
-
-// Whether so many steps lead to a generator, as a number.
-fn found(steps: usize) -> usize
-    ensures { (result ≡ found_at steps) × (result ≤ 1) }
-{
-    if steps == 0 { 0 } else { 1 }
+    None
 }
 
 // How many paths lead to a bus from its two sides that have no part in common. Two that together are as long as the ring meet at one
 // generator.
-fn side_paths(n: usize, rise: usize, fall: usize) -> usize
-    requires { (rise < n) × (fall < n) × (n ≤ 20) }
+fn side_paths(n: usize, rise: Option<usize>, fall: Option<usize>) -> usize
+    requires { Within n rise × Within n fall × (n ≤ 20) }
     ensures { (result ≡ side_paths n rise fall) × (result ≤ 2) }
 {
-    if rise + fall < n {
-        return found(rise) + found(fall);
+    match (rise, fall) {
+        (Some(up), Some(down)) if up + down < n => 2,
+        (None, None) => 0,
+        _ => 1,
     }
-    1
 }
 
 // How many faults it takes at least to leave bus b dark: one for each path to it, of its own generator and from both sides, that has no

@@ -103,26 +103,23 @@ module _ (n : ℕ) (B O : ℕ → ℕ) (g e : ℕ) (he : e < n) where
       buses x b (inl p) = rw (← p) first_bus
       buses x b (inr p) = c.buses x (b.0, omega (arith, b.1, nearer m a ha z, up_next n a x ha b.0 p))
 
--- at bus k with m steps left
-module _ (n : ℕ) (B O : ℕ → ℕ) (g k : ℕ) where
-  pub clear_open : (m : ℕ) → 0 < m → stuck_open (B k) ≡ true → clear n B O g k m ≡ false
+-- at bus k of a walk of m steps of which d are done
+module _ (n : ℕ) (B O : ℕ → ℕ) (g k m d : ℕ) where
+  pub clear_open : d < m → stuck_open (B k) ≡ true → clear n B O g k (m - d) ≡ false
   unfolding clear
-  clear_open zero l e = absurd (omega arith)
-  clear_open (suc m) l e = rw e
+  clear_open l e = let z : m - d ≡ suc (m - (d + 1)) = omega arith in rw (z, e)
 
-  pub clear_met : (m : ℕ) → 0 < m → stuck_open (B k) ≡ false → free (O k) g ≡ false → clear n B O g k m ≡ false
+  pub clear_met : d < m → stuck_open (B k) ≡ false → free (O k) g ≡ false → clear n B O g k (m - d) ≡ false
   unfolding clear
-  clear_met zero l e f = absurd (omega arith)
-  clear_met (suc m) l e f = rw (e, f)
+  clear_met l e f = let z : m - d ≡ suc (m - (d + 1)) = omega arith in rw (z, e, f)
 
-  pub clear_step : (m : ℕ) → 0 < m → stuck_open (B k) ≡ false → free (O k) g ≡ true → clear n B O g k m ≡ clear n B O g (next n k) (m - 1)
+  pub clear_step : d < m → stuck_open (B k) ≡ false → free (O k) g ≡ true → clear n B O g k (m - d) ≡ clear n B O g (next n k) (m - (d + 1))
   unfolding clear
-  clear_step zero l e f = absurd (omega arith)
-  clear_step (suc m) l e f = let z : suc m - 1 ≡ m = omega arith in rw (e, f, z)
+  clear_step l e f = let z : m - d ≡ suc (m - (d + 1)) = omega arith in rw (z, e, f)
 
-  pub clear_end : (m : ℕ) → m ≤ 0 → clear n B O g k m ≡ free (O k) g
+  pub clear_end : m ≤ d → clear n B O g k (m - d) ≡ free (O k) g
   unfolding clear
-  clear_end m l = let z : m ≡ 0 = omega arith in rw z
+  clear_end l = let z : m - d ≡ 0 = omega arith in rw z
 
 -- ---- out from a bus, and the breakers of a path
 
@@ -171,6 +168,17 @@ unfoldable pub outward : ℕ → Bool → ℕ → ℕ → List ℕ
 outward n r k zero = []
 outward n r k (suc m) = breaker_beside n r k ∷ outward n r (bus_beside n r k) m
 
+-- .. one by one
+pub outward_none : (n : ℕ) (r : Bool) (k m : ℕ) → m ≡ 0 → outward n r k m ≡ []
+unfolding outward
+outward_none n r k m e = rw e
+
+pub outward_some : (n : ℕ) (r : Bool) (k m : ℕ) → m ≢ 0
+    → outward n r k m ≡ breaker_beside n r k ∷ outward n r (bus_beside n r k) (m - 1)
+unfolding outward
+outward_some n r k zero e = absurd (e refl)
+outward_some n r k (suc m) e = let z : suc m - 1 ≡ m = omega arith in rw z
+
 -- a bus breaker counts as closed: B has the health of each, l says which are on chosen paths
 abbrev pub closed_by : (ℕ → ℕ) → List Bool → ℕ → Bool
 closed_by B l i = stuck_closed (B i) || get_or l i false
@@ -195,6 +203,12 @@ breaker_lt n false k hk = (next_previous n k hk).0
 pub bus_lt : (n : ℕ) (r : Bool) (k : ℕ) → k < n → bus_beside n r k < n
 bus_lt n true k hk = next_lt n k hk
 bus_lt n false k hk = (next_previous n k hk).0
+
+-- those met are the ring's
+pub outward_lt : (n : ℕ) (r : Bool) (k m : ℕ) {i : ℕ} {is : List ℕ} → k < n → outward n r k m ≡ i ∷ is → i < n
+unfolding outward
+outward_lt n r k zero hk e = absurd (cc)
+outward_lt n r k (suc m) {i} {is} hk e = let z : breaker_beside n r k ≡ i = cc in rw (← z) (breaker_lt n r k hk)
 
 -- ---- the breakers met outward from a path's generator are those of the path, in its sequence
 
@@ -311,26 +325,16 @@ module _ (n : ℕ) (C : ℕ → Bool) where
 
 -- ---- stores on the way, at bus k of a walk of m steps of which d are done
 
-module _ {A : Type 0} (x : A) (n k m d : ℕ) (l : List A) where
-  pub outward_step : (r : Bool) → d < m
-      → set_all x (outward n r k (m - d)) l ≡ set_all x (outward n r (bus_beside n r k) (m - (d + 1))) (set l (breaker_beside n r k) x)
-  unfolding outward set_all
-  outward_step r h = let z : m - d ≡ suc (m - (d + 1)) = omega arith in rw z
+module _ {A : Type 0} (x : A) (n k m d : ℕ) (l : List A) (C : ℕ → Bool) (r : Bool) where
+  pub reach_step : d < m → C (breaker_beside n r k) ≡ true
+      → set_all x (reach n C r k (m - d)) l ≡ set_all x (reach n C r (bus_beside n r k) (m - (d + 1))) (set l k x)
+  unfolding reach set_all
+  reach_step h e = let z : m - d ≡ suc (m - (d + 1)) = omega arith in rw (z, e)
 
-  pub outward_end : (r : Bool) → m ≤ d → set_all x (outward n r k (m - d)) l ≡ l
-  unfolding outward set_all
-  outward_end r h = let z : m - d ≡ 0 = omega arith in rw z
+  pub reach_stop : d < m → C (breaker_beside n r k) ≡ false → set_all x (reach n C r k (m - d)) l ≡ set l k x
+  unfolding reach set_all
+  reach_stop h e = let z : m - d ≡ suc (m - (d + 1)) = omega arith in rw (z, e)
 
-  module _ (C : ℕ → Bool) (r : Bool) where
-    pub reach_step : d < m → C (breaker_beside n r k) ≡ true
-        → set_all x (reach n C r k (m - d)) l ≡ set_all x (reach n C r (bus_beside n r k) (m - (d + 1))) (set l k x)
-    unfolding reach set_all
-    reach_step h e = let z : m - d ≡ suc (m - (d + 1)) = omega arith in rw (z, e)
-
-    pub reach_stop : d < m → C (breaker_beside n r k) ≡ false → set_all x (reach n C r k (m - d)) l ≡ set l k x
-    unfolding reach set_all
-    reach_stop h e = let z : m - d ≡ suc (m - (d + 1)) = omega arith in rw (z, e)
-
-    pub reach_end : m ≤ d → set_all x (reach n C r k (m - d)) l ≡ l
-    unfolding reach set_all
-    reach_end h = let z : m - d ≡ 0 = omega arith in rw z
+  pub reach_end : m ≤ d → set_all x (reach n C r k (m - d)) l ≡ l
+  unfolding reach set_all
+  reach_end h = let z : m - d ≡ 0 = omega arith in rw z

@@ -3,8 +3,10 @@
 #![tactic(auto)]
 
 ghost use Rattle.std.specs.Prelude.{◌≡◌, true, ◌||◌, ◌≤◌, ◌<◌};
+ghost use Rattle.std.specs.Iterator.{YieldsFirst, item_count};
 ghost use Rattle.model.specs.Plant.{stuck_closed, up as steps_up};
 ghost use Rattle.walks.specs.Arrays.{at, set_all};
+ghost use Rattle.walks.specs.Breakers.{breakers_left, OnRing};
 ghost use Rattle.walks.specs.Walk.{free as may_connect, clear as clear_walk, previous as bus_before, breaker_beside, bus_beside, outward, closed_by, reach};
 
 use model::{STUCK_CLOSED, STUCK_OPEN};
@@ -69,8 +71,7 @@ pub fn clear(
     ensures { result ≡ clear_walk n (at breakers.now) (at owners.now) number from steps }
 {
     let mut k = from;
-    let mut left = steps;
-    while left > 0 {
+    for _ in 0..steps {
         if breakers[k] == STUCK_OPEN {
             return false;
         }
@@ -78,9 +79,53 @@ pub fn clear(
             return false;
         }
         k = components::next(n, k);
-        left -= 1;
     }
     free(owners[k], number)
+}
+
+// The bus breakers met from a bus on one side, one after the other: the bus reached, and how many are left.
+#[derive(Drop)]
+pub struct Outward {
+    n: usize,
+    bus: usize,
+    rising: bool,
+    left: usize,
+}
+
+impl Outward {
+    // So many outward from bus k.
+    pub fn new(n: usize, k: usize, rising: bool, steps: usize) -> Outward
+        requires { (k < n) × (n ≤ 20) }
+        ensures on_ring { OnRing result }
+        ensures ahead { breakers_left result ≡ outward n rising k steps }
+    {
+        Outward {
+            n,
+            bus: k,
+            rising,
+            left: steps,
+        }
+    }
+}
+
+impl Iterator for Outward {
+    type Item = usize;
+
+    ghost can_next = { OnRing };
+
+    ghost next_gives = { YieldsFirst breakers_left };
+
+    ghost remaining = { item_count breakers_left };
+
+    fn next(&mut self) -> Option<usize> {
+        if self.left == 0 {
+            return None;
+        }
+        let i = breaker_beside(self.n, self.bus, self.rising);
+        self.bus = bus_beside(self.n, self.bus, self.rising);
+        self.left -= 1;
+        Some(i)
+    }
 }
 
 // Sets the bus breakers of one path more, so many outward from its generator's bus, none for an own path, among those on chosen paths.
@@ -89,13 +134,8 @@ pub fn close(n: usize, closed: &mut [bool; 20], g: usize, rising: bool, steps: u
     requires { (g < n) × (steps < n) × (n ≤ 20) }
     ensures { closed.new ≡ set_all true (outward n rising g steps) closed.old }
 {
-    let mut k = g;
-    let mut done = 0;
-    while done < steps {
-        let i = breaker_beside(n, k, rising);
+    for i in Outward::new(n, g, rising, steps) {
         closed[i] = true;
-        k = bus_beside(n, k, rising);
-        done += 1;
     }
 }
 
@@ -124,14 +164,12 @@ pub fn spread(
         ≡ set_all number (reach n (closed_by (at breakers.now) closed.now) rising b n) owners.old }
 {
     let mut k = b;
-    let mut done = 0;
-    while done < n {
+    for _ in 0..n {
         owners[k] = number;
         let i = breaker_beside(n, k, rising);
         if !counted_closed(breakers[i], closed[i]) {
             return;
         }
         k = bus_beside(n, k, rising);
-        done += 1;
     }
 }

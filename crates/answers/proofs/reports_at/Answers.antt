@@ -1,15 +1,12 @@
--- `answers::reports_at` meets its contract. The loop's invariant: the places before the i-th are those of the scan.
-use native.Mathlib.Omega.{arith}
-use borrow.Author.Rules.{rules}
-use Rattle.answers.specs.Answers.{placed_none, placed_more, placed_all}
+-- `answers::reports_at` meets its contract: each call gives the report of its index.
+use Rattle.std.proofs.Common.{rules}
+use Rattle.model.specs.declared.Part.TheVariants.{Generator}
+use Rattle.model.specs.declared.Word.TheVariants.{Fit}
+use Rattle.cases.specs.Items.{list_made}
 use Rattle.answers.proofs.reports_at.Goals as goal
 
-pub loop-i-init : goal.loop-i-init
-loop-i-init c = (search rules, placed_none _ _ _ _ (search rules) (omega arith))
-
-pub loop-i-preserved : goal.loop-i-preserved
-loop-i-preserved c =
-    (search rules, placed_more _ _ c.loop-i.i _ _ _ _ (omega arith) (omega arith) (omega arith) c.report_at.ensures c.loop-i.invariant.1)
-
 pub returns : goal.returns
-returns c s h = placed_all _ _ _ _ (omega arith) c.loop-i.invariant.1 s h
+returns c s h =
+    list_made _ _ _ (record { part = Generator 0; word = Fit }) s.reports h.full
+    (λ i x q l k. search (rules, k.met, h.reports i l))
+    _ c.from_fn.ensures.items

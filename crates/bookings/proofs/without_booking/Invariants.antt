@@ -1,17 +1,12 @@
--- `bookings::without_booking` meets its contract. The loop's invariant: those kept of the first i are stored in front, and counted.
-use mathlib.Core.Path.{◌≡◌}
-use Prim.Native.Nat.{◌≤◌, ◌-◌}
-use lib.ListN.{length}
+-- `bookings::without_booking` meets its contract. The loop's invariant: those kept of the first ones are stored in front, and counted.
+use Rattle.std.proofs.Common.{◌≡◌, ◌≤◌, length}
 use Rattle.bookings.specs.Kept.{kept, packed}
 use Rattle.bookings.proofs.without_booking.Given as goal
 
-abbrev pub invariant-loop-i : goal.invariant-loop-i
-invariant-loop-i l =
-    (l.bookings ≡ packed l.number l.load.bookings l.i)
-    × (l.kept ≡ length (kept l.number l.load.bookings l.i))
-    × (l.kept ≤ l.i)
-    × (l.i ≤ l.load.live)
-    × (l.load.live ≤ length l.load.bookings)
-
-abbrev pub decreases-loop-i : goal.decreases-loop-i
-decreases-loop-i l = l.before - l.i
+abbrev pub invariant-loop-booking : goal.invariant-loop-booking
+invariant-loop-booking l = record {
+  stored : l.bookings ≡ packed l.number l.fn.load.bookings l.booking-items l.booking-index;
+  counted : l.kept ≡ length (kept l.number l.fn.load.bookings l.booking-items l.booking-index);
+  few : l.kept ≤ l.booking-index;
+  places : length l.booking-items ≤ length l.fn.load.bookings;
+}

@@ -1,16 +1,7 @@
--- `cases::bools_at` meets its contract. The loop's invariant: the places below i are filled.
-use mathlib.Core.Path.{◌∙◌}
-use mathlib.Core.Bool.{false}
-use native.Mathlib.Nat.{le_antisymm}
-use borrow.Author.Rules.{rules}
-use Rattle.model.specs.Laws.Parts.{filled_none, filled_more, filled_all}
+-- `cases::bools_at` meets its contract: each call gives what stands at its index.
+use Rattle.std.proofs.Common.{rules}
+use Rattle.cases.specs.Items.{places_made}
 use Rattle.cases.proofs.bools_at.Goals as goal
 
-pub loop-i-init : goal.loop-i-init
-loop-i-init c = (filled_none false _, search rules)
-
-pub loop-i-preserved : goal.loop-i-preserved
-loop-i-preserved c = (rw c.loop-i.invariant.0 (filled_more false _ c.loop-i.i), search rules)
-
 pub returns : goal.returns
-returns c = rw (le_antisymm c.loop-i.invariant.1 c.loop-i-test.false) at c.loop-i.invariant.0 ∙ filled_all false _
+returns c = places_made _ _ _ (λ i x q l k. search rules) _ c.from_fn.ensures.items

@@ -1,15 +1,7 @@
--- `cases::bytes_at` meets its contract. The loop's invariant: the places below i are filled.
-use mathlib.Core.Path.{◌∙◌}
-use native.Mathlib.Nat.{le_antisymm}
-use borrow.Author.Rules.{rules}
-use Rattle.model.specs.Laws.Parts.{filled_none, filled_more, filled_all}
+-- `cases::bytes_at` meets its contract: each call gives what stands at its index.
+use Rattle.std.proofs.Common.{rules}
+use Rattle.cases.specs.Items.{places_made}
 use Rattle.cases.proofs.bytes_at.Goals as goal
 
-pub loop-i-init : goal.loop-i-init
-loop-i-init c = (filled_none 0 _, search rules)
-
-pub loop-i-preserved : goal.loop-i-preserved
-loop-i-preserved c = (rw c.loop-i.invariant.0 (filled_more 0 _ c.loop-i.i), search rules)
-
 pub returns : goal.returns
-returns c = rw (le_antisymm c.loop-i.invariant.1 c.loop-i-test.false) at c.loop-i.invariant.0 ∙ filled_all 0 _
+returns c = places_made _ _ _ (λ i x q l k. search rules) _ c.from_fn.ensures.items

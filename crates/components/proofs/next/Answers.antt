@@ -1,6 +1,5 @@
 -- `components::next` meets its contract.
 use native.Mathlib.Omega.{arith}
-use borrow.Author.Rules.{rules}
 use Rattle.model.specs.Laws.Tests.{facts}
 use Rattle.components.specs.Tests.{next_test}
 use Rattle.components.proofs.next.Goals as goal

@@ -1,17 +1,7 @@
--- `datasheets::twenty_at` meets its contract. The loop's invariant: the places below i are filled.
-use mathlib.Core.Path.{◌∙◌}
-use native.Mathlib.Nat.{le_antisymm}
-use borrow.Author.Rules.{rules}
-use Rattle.model.specs.Exposure.{unrated}
-use Rattle.model.specs.Laws.Parts.{filled_none, filled_more, filled_all}
+-- `datasheets::twenty_at` meets its contract: each call gives the rate of its index.
+use Rattle.std.proofs.Common.{rules}
+use Rattle.cases.specs.Items.{places_made}
 use Rattle.datasheets.proofs.twenty_at.Goals as goal
 
-pub loop-i-init : goal.loop-i-init
-loop-i-init c = (filled_none unrated _, search rules)
-
-pub loop-i-preserved : goal.loop-i-preserved
-loop-i-preserved c =
-    (rw (c.loop-i.invariant.0, c.rate_at.ensures) (filled_more unrated _ c.loop-i.i), search rules)
-
 pub returns : goal.returns
-returns c = rw (le_antisymm c.loop-i.invariant.1 c.loop-i-test.false) at c.loop-i.invariant.0 ∙ filled_all unrated _
+returns c = places_made _ _ _ (λ i x q l k. search rules) _ c.from_fn.ensures.items

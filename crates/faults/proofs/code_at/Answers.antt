@@ -1,17 +1,17 @@
 -- `faults::code_at` meets its contract: by the kind of the part.
-use native.Mathlib.Omega.{arith}
+use Rattle.std.proofs.Common.{arith}
 use Rattle.model.specs.Values.{part_code}
-use Rattle.faults.specs.Places.{in_first, in_second, in_third}
+use Rattle.faults.specs.Places.{index_less}
 use Rattle.faults.proofs.code_at.Goals as goal
 
-pub returns-then-p-n : goal.returns-then-p-n
+pub returns-in-Generator : goal.returns-in-Generator
 unfolding part_code
-returns-then-p-n c = rw (in_first c.args.n c.args.p c.if-p-n.true) (omega arith)
+returns-in-Generator c = rw (← c.in-Generator.ensures.part) (omega (arith, index_less c.in-Generator.number))
 
-pub returns-then-p-n-2 : goal.returns-then-p-n-2
+pub returns-in-GeneratorBreaker : goal.returns-in-GeneratorBreaker
 unfolding part_code
-returns-then-p-n-2 c = rw (in_second c.args.n c.args.p c.if-p-n.false c.if-p-n-2.true) (omega arith)
+returns-in-GeneratorBreaker c = rw (← c.in-GeneratorBreaker.ensures.part) (omega (arith, index_less c.in-GeneratorBreaker.number, c.in-GeneratorBreaker.ensures.inside.0))
 
-pub returns : goal.returns
+pub returns-in-BusBreaker : goal.returns-in-BusBreaker
 unfolding part_code
-returns c = rw (in_third c.args.n c.args.p c.if-p-n-2.false) (omega arith)
+returns-in-BusBreaker c = rw (← c.in-BusBreaker.ensures.part) (omega (arith, index_less c.in-BusBreaker.number, c.in-BusBreaker.ensures.inside.0))

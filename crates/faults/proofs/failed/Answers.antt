@@ -1,26 +1,27 @@
 -- `faults::failed` meets its contract: by the kind of the part.
-use borrow.Author.Rules.{rules}
-use mathlib.Core.Path.{◌≡◌, refl}
-use Rattle.model.specs.Plant.{generator, generator_breaker, bus_breaker}
-use Prim.Native.Nat.{◌+◌, ◌-◌}
-use native.Mathlib.Omega.{arith}
-use lib.ListN.{length}
-use Rattle.faults.specs.Places.{in_first, in_second, in_third, fault_stored}
+use Rattle.std.proofs.Common.{◌≡◌, ◌-◌, length, arith, rules}
+use Rattle.model.specs.declared.Part.TheVariants.{Generator, GeneratorBreaker, BusBreaker}
+use Rattle.faults.specs.Places.{fault_stored}
 use Rattle.faults.proofs.failed.Goals as goal
 
-pub returns-then-p-n : goal.returns-then-p-n
-returns-then-p-n c =
+pub returns-in-Generator : goal.returns-in-Generator
+returns-in-Generator c =
+    let k = c.in-Generator.number in
     let full : length c.args.health.generators ≡ 20 = search rules in
-    rw (in_first c.args.n c.args.p c.if-p-n.true) (fault_stored c.args.health (generator c.args.p) c.args.p refl (omega arith))
+    let at = c.in-Generator.ensures.inside in
+    rw (← c.in-Generator.ensures.part) (fault_stored c.args.health (Generator k) (k - 1) (omega (arith, at.0)) (omega (arith, at.0, at.1)))
 
-pub returns-then-p-n-2 : goal.returns-then-p-n-2
-returns-then-p-n-2 c =
+pub returns-in-GeneratorBreaker : goal.returns-in-GeneratorBreaker
+returns-in-GeneratorBreaker c =
+    let k = c.in-GeneratorBreaker.number in
     let full : length c.args.health.generator_breakers ≡ 20 = search rules in
-    rw (in_second c.args.n c.args.p c.if-p-n.false c.if-p-n-2.true)
-    (fault_stored c.args.health (generator_breaker (c.args.p - c.args.n)) (c.args.p - c.args.n) refl (omega arith))
+    let at = c.in-GeneratorBreaker.ensures.inside in
+    rw (← c.in-GeneratorBreaker.ensures.part)
+    (fault_stored c.args.health (GeneratorBreaker k) (k - 1) (omega (arith, at.0)) (omega (arith, at.0, at.1)))
 
-pub returns : goal.returns
-returns c =
+pub returns-in-BusBreaker : goal.returns-in-BusBreaker
+returns-in-BusBreaker c =
+    let k = c.in-BusBreaker.number in
     let full : length c.args.health.bus_breakers ≡ 20 = search rules in
-    rw (in_third c.args.n c.args.p c.if-p-n-2.false)
-    (fault_stored c.args.health (bus_breaker (c.args.p - (c.args.n + c.args.n))) (c.args.p - (c.args.n + c.args.n)) refl (omega arith))
+    let at = c.in-BusBreaker.ensures.inside in
+    rw (← c.in-BusBreaker.ensures.part) (fault_stored c.args.health (BusBreaker k) (k - 1) (omega (arith, at.0)) (omega (arith, at.0, at.1)))

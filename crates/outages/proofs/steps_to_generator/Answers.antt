@@ -2,7 +2,7 @@
 use mathlib.Core.Path.{◌≡◌, sym, ◌∙◌}
 use mathlib.Core.Bool.{Bool, true, false}
 use mathlib.Core.Logic.{◌≢◌}
-use Prim.Native.Nat.{◌<◌, ◌+◌}
+use Prim.Native.Nat.{◌<◌}
 use native.Mathlib.Omega.{arith}
 use borrow.Author.Rules.{rules}
 use Rattle.model.specs.Plant.{bus_breaker}
@@ -28,7 +28,7 @@ unfolding health_of may_feed
 judged c t e = rw c.bus_beside-k.ensures at (sym c.may_feed.ensures ∙ e)
 
 pub loop-steps-init : goal.loop-steps-init
-loop-steps-init c = (search rules, search rules, walked_start _ _ _ _ c.requires.0)
+loop-steps-init c = (search rules, walked_start _ _ _ _ c.requires.0)
 
 -- the breaker beside the bus that was reached
 pub bounds-health-i : goal.bounds-health-i
@@ -39,7 +39,7 @@ pub returns-then-health-i-eq-STUCK_OPEN : goal.returns-then-health-i-eq-STUCK_OP
 unfolding health_of
 returns-then-health-i-eq-STUCK_OPEN c =
     let e : (health_of c.args.health).health (bus_breaker c.breaker_beside-i.result) ≡ 2 = omega (arith, c.if-health-i-eq-STUCK_OPEN.true) in
-    walked_open _ _ _ _ c.requires.0 _ _ c.loop-steps.invariant.2 (rw c.breaker_beside-i.ensures at e)
+    walked_open _ _ _ _ c.requires.0 _ _ c.loop-steps.invariant.1 (rw c.breaker_beside-i.ensures at e)
 
 pub bounds-health-k : goal.bounds-health-k
 bounds-health-k c = in_array (goal.at.bounds-health-k c).After-bus_beside-k
@@ -54,20 +54,19 @@ pub returns-then-may_feed : goal.returns-then-may_feed
 unfolding health_of
 returns-then-may_feed c =
     let e : (health_of c.args.health).health (bus_breaker c.breaker_beside-i.result) ≢ 2 = λ z. omega (arith, c.if-health-i-eq-STUCK_OPEN.false) in
-    walked_met _ _ _ _ c.requires.0 _ _ c.loop-steps.invariant.2 (omega (arith, c.loop-steps-test.true)) (rw c.breaker_beside-i.ensures at e)
+    walked_met _ _ _ _ c.requires.0 _ _ c.loop-steps.invariant.1 (omega (arith, c.loop-steps-test.true)) (rw c.breaker_beside-i.ensures at e)
     (judged (goal.at.returns-then-may_feed c).After-may_feed true c.if-may_feed.true)
 
 pub loop-steps-preserved : goal.loop-steps-preserved
 unfolding health_of
 loop-steps-preserved c =
     let clear : (health_of c.args.health).health (bus_breaker c.breaker_beside-i.result) ≢ 2 = λ z. omega (arith, c.if-health-i-eq-STUCK_OPEN.false) in
-    let room : c.loop-steps.steps + 1 < c.args.n = omega (arith, c.loop-steps-test.true) in (
+    let room : c.loop-steps.steps < c.args.n = omega (arith, c.loop-steps-test.true) in (
       behind-lt (goal.at.loop-steps-preserved c).After-bus_beside-k,
-      room,
       rw c.bus_beside-k.ensures
-          (walked_on _ _ _ _ c.requires.0 _ _ c.loop-steps.invariant.2 room (rw c.breaker_beside-i.ensures at clear)
+          (walked_on _ _ _ _ c.requires.0 _ _ c.loop-steps.invariant.1 room (rw c.breaker_beside-i.ensures at clear)
           (judged (goal.at.loop-steps-preserved c).After-may_feed false c.if-may_feed.false)),
     )
 
 pub returns : goal.returns
-returns c = walked_end _ _ _ _ c.requires.0 _ _ c.loop-steps.invariant.2 (omega (arith, c.loop-steps-test.false))
+returns c = walked_end _ _ _ _ c.requires.0 _ _ c.loop-steps.invariant.1 (omega (arith, c.loop-steps-test.false))

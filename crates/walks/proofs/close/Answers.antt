@@ -1,28 +1,21 @@
 -- `walks::close` meets its contract. The loop's invariant: what is stored on the whole way is what is stored from here.
-use Rattle.model.specs.Laws.Tests.{auto}
-use mathlib.Core.Path.{sym, ◌∙◌}
-use mathlib.Core.Bool.{true}
-use native.Mathlib.Nat.{sub-zero}
-use native.Mathlib.Omega.{arith}
-use Rattle.walks.specs.Walk.{breaker_lt, bus_lt, outward_step, outward_end}
+use Rattle.std.proofs.Common.{sym, ◌∙◌, arith}
+use Rattle.walks.specs.Arrays.{set_all}
+use Rattle.walks.specs.Walk.{outward_lt}
 use Rattle.walks.proofs.close.Goals as goal
 
-pub loop-done-init : goal.loop-done-init
-loop-done-init c = (search auto, rw sub-zero)
+pub loop-i-init : goal.loop-i-init
+loop-i-init c = rw (c.into_iter-i-iterator.ensures.into_iter_gives, c.new-i-items.ensures.ahead)
 
 pub bounds-closed-i : goal.bounds-closed-i
 bounds-closed-i c =
-    let l = breaker_lt c.args.n c.args.rising c.loop-done.k c.loop-done.invariant.0 in
-    omega (arith, c.breaker_beside-i.ensures)
+    let s = c.loop-i.i-iterator in
+    omega (arith, outward_lt s.n s.rising s.bus s.left c.loop-i.iterator.0.0 c.in-Some.ensures.steps, c.loop-i.iterator.0.1)
 
-pub loop-done-preserved : goal.loop-done-preserved
-loop-done-preserved c =
-    rw (c.bus_beside-k.ensures, c.breaker_beside-i.ensures) (
-      bus_lt c.args.n c.args.rising c.loop-done.k c.loop-done.invariant.0,
-      c.loop-done.invariant.1 ∙ outward_step true c.args.n c.loop-done.k c.args.steps c.loop-done.done c.loop-done.closed c.args.rising
-          c.loop-done-test.true,
-    )
+pub loop-i-preserved : goal.loop-i-preserved
+unfolding set_all
+loop-i-preserved c = c.loop-i.invariant ∙ rw c.in-Some.ensures.steps
 
 pub returns : goal.returns
-returns c =
-    sym (c.loop-done.invariant.1 ∙ outward_end true c.args.n c.loop-done.k c.args.steps c.loop-done.done c.loop-done.closed c.args.rising c.loop-done-test.false)
+unfolding set_all
+returns c = sym (c.loop-i.invariant ∙ rw c.in-None.ensures.steps.0)

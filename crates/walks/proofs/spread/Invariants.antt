@@ -5,10 +5,7 @@ use Rattle.walks.specs.Arrays.{at, set_all}
 use Rattle.walks.specs.Walk.{closed_by, reach}
 use Rattle.walks.proofs.spread.Given as goal
 
-abbrev pub invariant-loop-done : goal.invariant-loop-done
-invariant-loop-done l =
+abbrev pub invariant-loop : goal.invariant-loop
+invariant-loop l =
     (l.k < l.n) × (set_all l.number (reach l.n (closed_by (at l.breakers) l.closed) l.rising l.b l.n) l.initial.owners
-    ≡ set_all l.number (reach l.n (closed_by (at l.breakers) l.closed) l.rising l.k (l.n - l.done)) l.owners)
-
-abbrev pub decreases-loop-done : goal.decreases-loop-done
-decreases-loop-done l = l.n - l.done
+    ≡ set_all l.number (reach l.n (closed_by (at l.breakers) l.closed) l.rising l.k (l.n - l.counter)) l.owners)
