@@ -1,18 +1,16 @@
 -- Reports and answers in the bytes of a stored case (tests/make_vectors.py).
-use Rattle.std.specs.Prelude.{◌≡◌, List, ℕ, ◌+◌, ◌*◌, ◌<◌, length, get_or}
+use Rattle.std.specs.Prelude.{◌≡◌, List, ℕ, ◌+◌, ◌*◌, ◌<◌, length, get_or, Ok}
 use Rattle.std.proofs.Common.{sym, ap, arith, below_more}
 use Rattle.model.specs.declared.Part.{Part}
 use Rattle.model.specs.declared.Part.TheVariants.{Generator, GeneratorBreaker, BusBreaker}
 use Rattle.model.specs.declared.Word.{Word}
-use Rattle.model.specs.declared.WordAnswer.TheVariants.{Named}
 use Rattle.model.specs.declared.Report.{Report}
 use Rattle.model.specs.declared.Scan.{Scan}
 use Rattle.model.specs.declared.Choice.TheVariants.{Dark}
 use Rattle.model.specs.declared.BusChoice.{BusChoice}
 use Rattle.model.specs.declared.RingState.{RingState}
-use Rattle.model.specs.declared.Outcome.{Outcome}
 use Rattle.model.specs.declared.StateAnswer.{StateAnswer}
-use Rattle.model.specs.Values.{number, first_code, word_number, choice_source, choice_letter, outcome_number}
+use Rattle.model.specs.Values.{number, first_code, word_number, choice_source, choice_letter, Outcome, outcome_number}
 use Rattle.model.specs.Plant.{largest}
 use Rattle.model.specs.Reports.{word_named}
 use Rattle.model.specs.Answers.{word_answer}
@@ -84,7 +82,7 @@ module _ (i k : ℕ) (p : Part) (h : PartIn i k p) where
       go (BusBreaker j) e f = ap BusBreaker (sym f)
 
 -- a word is what its number is read as
-pub word_answer_lem : (v : ℕ) (w : Word) → word_number w ≡ v → word_answer (word_named v) ≡ Named w
+pub word_answer_lem : (v : ℕ) (w : Word) → word_number w ≡ v → word_answer (word_named v) ≡ Ok w
 unfolding word_answer
 word_answer_lem v w e = rw (← e, number_names w)
 

@@ -11,8 +11,7 @@ ghost use Rattle.model.specs.Values.{word_number};
 ghost use Rattle.answers.specs.Answers.{PartIn, ReportIn, ScanIn, ChoiceIn, ChoicesIn, RecordIn, AnswerIn};
 
 use model::{
-    BookingAnswer, BusChoice, Choice, Outcome, Part, Report, RingState, Scan, StateAnswer, Word,
-    WordAnswer,
+    BookingAnswer, BusChoice, Choice, Part, Refusal, Report, RingState, Scan, StateAnswer, Word,
 };
 use std::array;
 
@@ -31,11 +30,7 @@ fn part_of(kind: u8, number: u8) -> Part
 fn word_of(number: u8) -> Word
     ensures { (w : Word) → word_number w ≡ «number» → result ≡ w }
 {
-    let answer = words::word_of(number);
-    match answer {
-        WordAnswer::Named(word) => word,
-        WordAnswer::Refused(_) => Word::StuckClosed,
-    }
+    words::word_of(number).unwrap_or(Word::StuckClosed)
 }
 
 // The report of three bytes of a case: its part's kind and number, and its word.
@@ -96,7 +91,7 @@ fn same_choices(choices: [BusChoice; 20], case: &[u8], from: usize) -> bool
 }
 
 // Whether an outcome's number and a ring state are those that a case holds from an index on.
-fn same_record(outcome: Outcome, state: RingState, case: &[u8], from: usize) -> bool
+fn same_record(outcome: Result<(), Refusal>, state: RingState, case: &[u8], from: usize) -> bool
     requires { from + 675 ≤ length case.now }
     ensures { result ≡ true → RecordIn case.now from outcome state }
 {

@@ -6,7 +6,7 @@ ghost use Rattle.std.specs.Prelude.{◌≡◌, ◌+◌, ◌≤◌, length};
 ghost use Rattle.model.specs.Values.{outcome_number};
 ghost use Rattle.cases.specs.Cases.{bytes_at, bools_at, health_at, commands_at, ring_at};
 
-use model::{Commands, Health, Outcome, Ring};
+use model::{Commands, Health, Refusal, Ring};
 use std::array;
 
 // Twenty bytes of a case.
@@ -63,11 +63,11 @@ pub fn ring_at(case: &[u8], n: u8, from: usize) -> Ring
 }
 
 // The number of an outcome, 0 where it is served.
-pub fn outcome_number(outcome: Outcome) -> u8
+pub fn outcome_number(outcome: Result<(), Refusal>) -> u8
     ensures { result ≡ outcome_number outcome }
 {
     match outcome {
-        Outcome::Served => 0,
-        Outcome::Refused(k) => k,
+        Ok(()) => 0,
+        Err(refusal) => refusal as u8,
     }
 }
