@@ -1,30 +1,32 @@
 -- The part codes of the opening phase, collected kind by kind, and the number of parts of the closing phase.
-use Rattle.std.specs.Prelude.{◌≡◌, refl, Bool, true, false, not, ◌&&◌, ◌||◌, ℕ, ◌+◌, ◌≤◌, length, get_or, set}
-use Rattle.std.proofs.Common.{ap, add-one, arith, length-append}
+use Rattle.std.specs.Prelude.{◌≡◌, refl, Bool, true, false, not, ◌&&◌, ℕ, ◌+◌, ◌≤◌, ◌<◌, length, get_or, set, take}
+use Rattle.std.proofs.Common.{◌∙◌, ap, add-one, arith, length-append}
+use Rattle.std.proofs.lemmas.List.{get_or-take, get_or_default, length-take-le}
+use Rattle.std.proofs.lemmas.List.FromFn.{length-enumerate_from, get_or-enumerate_from}
+use Rattle.std.proofs.lemmas.Slice.Zip.{length-zip, get_or-zip}
 use Rattle.std.proofs.Math.Bool.{cond}
 use Rattle.std.specs.Bool.{beq}
+use Rattle.std.specs.Cmp.{booleans_Decides}
+use Rattle.std.specs.List.{zip, enumerate_from}
+use Rattle.std.specs.Cmp.Lexicographic.{pointwise, pointwise_decides}
 use mathlib.Core.List.{List, [], ◌∷◌, ◌++◌, map, map-append, map-map, append_assoc, append-nil}
 use Rattle.std.proofs.lemmas.List.{length-map}
 use Rattle.model.specs.declared.Part.{Part}
 use Rattle.model.specs.declared.Commands.{Commands}
-use Rattle.model.specs.Lists.{below, keep, any_of, ◌∈◌}
+use Rattle.model.specs.Lists.{below, keep, ◌∈◌}
 use Rattle.model.specs.Values.{part_code}
-use Rattle.model.specs.Plant.{largest, generator, generator_breaker, bus_breaker, parts}
+use Rattle.model.specs.Plant.{generator, generator_breaker, bus_breaker, parts}
 use Rattle.model.specs.Sheet.{opening}
 use Rattle.model.specs.Reports.{commands_of}
 use Rattle.model.specs.Laws.Tests.{contra, by_cond}
-use Rattle.model.specs.Laws.Lists.{below_in, below_lt, any_none, any_below, keep_append, keep_map, keep_none}
+use Rattle.model.specs.Laws.Lists.{keep_append, keep_map, keep_none}
 use Rattle.model.specs.Laws.Appended.{Appended, appended_none, appended_one, appended_more}
 
 -- the codes of the opening phase
 abbrev pub opening_codes : ℕ → Commands → Commands → List ℕ
 opening_codes n old new = map part_code (opening n (commands_of old) (commands_of new))
 
--- the command at index i of a kind changes
-abbrev pub changes : List Bool → List Bool → ℕ → Bool
-changes old new i = not (beq (get_or old i false) (get_or new i false))
-
--- .. to off or open
+-- the command at index i of a kind changes to off or open
 abbrev pub opens : List Bool → List Bool → ℕ → Bool
 opens old new i = get_or old i false && not (get_or new i false)
 
@@ -54,16 +56,26 @@ kept false false e = (refl, refl)
 kept true false e = contra refl e
 kept false true e = contra refl e
 
--- one command more: t says whether it changes
-pub any_more : (old new : List Bool) (i : ℕ) {b t : Bool} → b ≡ any_of (changes old new) (below i) → t ≡ changes old new i
-    → b || t ≡ any_of (changes old new) (below (i + 1))
-any_more old new i e f = rw f (any_below (changes old new) i e)
+-- where the commands of a kind are the old ones, none opens or closes
+pub unchanged : (old new : List Bool) → pointwise beq old new ≡ true → (i : ℕ) → (opens old new i ≡ false) × (closes old new i ≡ false)
+unchanged old new e i = rw ((pointwise_decides booleans_Decides old new).0 e) (itself (get_or new i false))
+  where
+    itself : (b : Bool) → (b && not b ≡ false) × (not b && b ≡ false)
+    itself true = (refl, refl)
+    itself false = (refl, refl)
 
--- where no command of a kind changes, none opens or closes
-pub unchanged : (old new : List Bool) (n : ℕ) → n ≤ largest → any_of (changes old new) (below largest) ≡ false
-    → (i : ℕ) → i ∈ below n → (opens old new i ≡ false) × (closes old new i ≡ false)
-unchanged old new n h e i m =
-    kept (get_or old i false) (get_or new i false) (any_none (changes old new) e (below_in largest i (omega (arith, below_lt n i m))))
+-- the commands of part k of a kind, as a walk over the first n of both arrays gives them
+pub walked : (old new : List Bool) (n k i : ℕ) (was now : Bool) → n ≤ length old → n ≤ length new
+    → k < length (enumerate_from 0 (zip (take n old) (take n new)))
+    → (i, (was, now)) ≡ get_or (enumerate_from 0 (zip (take n old) (take n new))) k (i, (was, now))
+    → (k < n) × (i ≡ k) × (was ≡ get_or old k false) × (now ≡ get_or new k false)
+walked old new n k i was now p q h e =
+    let l : length (take n old) ≡ n = length-take-le n old p in
+    let m : length (take n new) ≡ n = length-take-le n new q in
+    let pairs = zip (take n old) (take n new) in
+    let b : k < n = omega (arith, h, length-enumerate_from 0 pairs, length-zip (take n old) (take n new), l, m) in
+    let f = e ∙ get_or-enumerate_from 0 pairs k _ (rw length-enumerate_from at h) ∙ ap (λ x. (0 + k, x)) (get_or-zip (take n old) (take n new) k (was, now) (omega arith) (omega arith)) in
+    (b, ap (λ x. x.0) f ∙ omega arith, ap (λ x. x.1.0) f ∙ get_or-take n old k was b ∙ get_or_default old k was false (omega arith), ap (λ x. x.1.1) f ∙ get_or-take n new k now b ∙ get_or_default new k now false (omega arith))
 
 -- ---- one kind
 

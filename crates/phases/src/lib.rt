@@ -3,11 +3,11 @@
 #![tactic(auto)]
 
 ghost use Rattle.std.specs.Prelude.{◌≡◌, ◌+◌, ◌≤◌, length};
-ghost use Rattle.model.specs.Lists.{below, keep, any_of};
+ghost use Rattle.model.specs.Lists.{below, keep};
 ghost use Rattle.model.specs.Reports.{commands_of};
 ghost use Rattle.model.specs.Laws.Appended.{Appended};
 ghost use Rattle.model.specs.Laws.Sheet.{closing_by_code};
-ghost use Rattle.phases.specs.Codes.{changes, opens, closes, codes, opening_codes};
+ghost use Rattle.phases.specs.Codes.{opens, closes, codes, opening_codes};
 
 use model::Commands;
 
@@ -16,18 +16,6 @@ use model::Commands;
 pub struct Counts {
     pub opening: usize,
     pub closing: usize,
-}
-
-// Whether a command of one kind of part changes. Most reports change none, and this loop without a branch compiles to a few wide
-// comparisons.
-fn differ(old: &[bool; 20], new: &[bool; 20]) -> bool
-    ensures { result ≡ any_of (changes old.now new.now) (below 20) }
-{
-    let mut any = false;
-    for i in 0..20 {
-        any |= old[i] != new[i];
-    }
-    any
 }
 
 // Appends the codes of one kind of part that open, and counts those that close: `base` is the code of the kind's first part.
@@ -48,15 +36,15 @@ fn collect(
     ensures closing_count { result.closing ≡ counts.closing + length (keep (closes old.now new.now) (below n)) }
     ensures most { (result.opening ≤ counts.opening + n) × (result.closing ≤ counts.closing + n) }
 {
-    if !differ(old, new) {
+    // Most reports change no command.
+    if old == new {
         return counts;
     }
     let mut opened = counts.opening;
     let mut closed = counts.closing;
-    for i in 0..n {
-        let command = new[i];
-        if old[i] != command {
-            if command {
+    for (i, (was, command)) in old[..n].iter().zip(&new[..n]).enumerate() {
+        if was != command {
+            if *command {
                 closed += 1;
             } else {
                 opening[opened] = base + i as u8;
