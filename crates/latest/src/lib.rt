@@ -2,7 +2,6 @@
 #![tactic(auto)]
 
 ghost use Rattle.std.specs.Prelude.{◌≡◌, ◌≤◌, length};
-ghost use Rattle.model.specs.declared.FileAnswer.TheVariants.{Served};
 ghost use Rattle.model.specs.Values.{outcome_of, outcome_number};
 ghost use Rattle.model.specs.Reports.{with_plan};
 ghost use Rattle.model.specs.Refusals.{file_refusal};
@@ -11,16 +10,16 @@ ghost use Rattle.model.specs.Text.{told_answer};
 ghost use Rattle.model.specs.CutText.{latest_ring};
 ghost use Rattle.latest.specs.Told.{told_reports, told_file};
 
-use model::{FileAnswer, LatestAnswer, Outcome, ReportAnswer, Ring};
+use model::{FileHead, LatestAnswer, Refusal, Report, Ring};
 
 // A ring told the report of an answer, if it is one.
-fn told_answer(ring: Ring, answer: ReportAnswer) -> Ring
+#[tactic(auto, unfolding(model::specs::Text::told_answer))]
+fn told_answer(ring: Ring, answer: Result<Option<Report>, Refusal>) -> Ring
     ensures { result ≡ told_answer ring answer }
 {
     match answer {
-        ReportAnswer::Read(report) => rings::told(ring, report),
-        ReportAnswer::Refused(_) => ring,
-        ReportAnswer::Missing => ring,
+        Ok(Some(report)) => rings::told(ring, report),
+        Ok(None) | Err(_) => ring,
     }
 }
 
@@ -36,12 +35,13 @@ fn told_all(n: u8, codes: &[u8], words: &[u8]) -> Ring
     ring
 }
 
-// A blank ring of n told the m reports of a file that is served. "Each array is handed on as that stretch of the file, without a copy."; a file
+// A blank ring told the reports of a file that is served, by its head. "Each array is handed on as that stretch of the file, without a copy."; a file
 // of no bytes (document 02, Note 9) is both of its stretches.
-fn told_file(n: u8, m: usize, file: &[u8]) -> Ring
-    requires { file_answer file.now ≡ Served n m }
+fn told_file(head: FileHead, file: &[u8]) -> Ring
+    requires { file_answer file.now ≡ Ok head }
     ensures { result ≡ told_file file.now }
 {
+    let FileHead { n, m } = head;
     if file.len() == 0 {
         return told_all(n, file, file);
     }
@@ -67,20 +67,13 @@ pub fn ring_after(file: &[u8]) -> LatestAnswer
     ensures ring { result.ring ≡ latest_ring file.now }
 {
     match files::check_file(file) {
-        FileAnswer::Refused(k) => {
-            let ring = rings::blank(0);
-            LatestAnswer {
-                outcome: Outcome::Refused(k),
-                ring,
-            }
-        }
-        FileAnswer::Served(n, m) => {
-            let told = told_file(n, m, file);
-            let ring = planned(told);
-            LatestAnswer {
-                outcome: Outcome::Served,
-                ring,
-            }
-        }
+        Err(refusal) => LatestAnswer {
+            outcome: Err(refusal),
+            ring: rings::blank(0),
+        },
+        Ok(head) => LatestAnswer {
+            outcome: Ok(()),
+            ring: planned(told_file(head, file)),
+        },
     }
 }

@@ -8,7 +8,7 @@ ghost use Rattle.model.specs.Refusals.{bad_ring, next_sheet, sheet_refusal, star
 ghost use Rattle.model.specs.Answers.{reply_by, start_reply, step_reply, call_values};
 ghost use Rattle.model.specs.Scans.{scan_reports, told_all, scan_refusal, scan_reply};
 
-use model::{Outcome, Report, Ring, RingAnswer, Scan};
+use model::{Refusal, Report, Ring, RingAnswer, Scan};
 
 // A ring that was told its reports, taken to the commands that its health and locks call for: "gives the new record, each bus's choice and
 // the sheet", or the ring kept where 8 refuses.
@@ -26,12 +26,12 @@ fn advance(ring: Ring, kept: Ring, buffer: &mut [u8]) -> RingAnswer
     let mut next = ring;
     next.commands = new;
     match sheet::write(ring.n, old, new, choices, buffer) {
-        Outcome::Served => RingAnswer {
-            outcome: Outcome::Served,
+        Ok(()) => RingAnswer {
+            outcome: Ok(()),
             ring: next,
             choices,
         },
-        Outcome::Refused(number) => rings::refused(number, kept),
+        Err(refusal) => rings::refused(refusal, kept),
     }
 }
 
@@ -59,8 +59,8 @@ pub fn step(ring: Ring, report: Report, buffer: &mut [u8]) -> RingAnswer
 {
     // 5 and 6 come before the plan, and so before 8.
     match reports::check_report(ring.n, report) {
-        Outcome::Served => advance(rings::told(ring, report), ring, buffer),
-        Outcome::Refused(number) => rings::refused(number, ring),
+        Ok(()) => advance(rings::told(ring, report), ring, buffer),
+        Err(refusal) => rings::refused(refusal, ring),
     }
 }
 
@@ -76,14 +76,14 @@ pub fn scan(ring: Ring, scan: Scan, buffer: &mut [u8]) -> RingAnswer
 {
     // "11 for a count above 64, after 9 and before the reports".
     if 64 < scan.count {
-        return rings::refused(11, ring);
+        return rings::refused(Refusal::CountAbove, ring);
     }
     // "8 is checked last, for the scan's own sheet": the reports are checked before the plan.
     match scans::check(ring.n, scan) {
-        Outcome::Served => {
+        Ok(()) => {
             let told = scans::told(ring, scan);
             advance(told, ring, buffer)
         }
-        Outcome::Refused(number) => rings::refused(number, ring),
+        Err(refusal) => rings::refused(refusal, ring),
     }
 }

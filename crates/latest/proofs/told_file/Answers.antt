@@ -9,11 +9,11 @@ use Rattle.latest.proofs.told_file.Goals as goal
 use Rattle.latest.proofs.told_file.Goals.{Else-file-eq0}
 
 -- its bytes
-whole : (c : Else-file-eq0) → length c.args.file.now ≡ 3 + c.args.m + c.args.m
-whole c = served_length _ _ _ c.requires (omega (arith, facts))
+whole : (c : Else-file-eq0) → length c.args.file.now ≡ 3 + c.args.head.m + c.args.head.m
+whole c = served_length _ _ c.requires (omega (arith, facts))
 
 pub returns-then-file-eq0 : goal.returns-then-file-eq0
-returns-then-file-eq0 c = told_empty _ _ _ c.requires _ (omega (arith, facts)) c.told_all.ensures
+returns-then-file-eq0 c = told_empty _ _ c.requires _ (omega (arith, facts)) c.told_all.ensures
 
 pub overflow_add-m : goal.overflow_add-m
 overflow_add-m c = omega (arith, whole (goal.at.overflow_add-m c).Else-file-eq0)
@@ -31,4 +31,4 @@ pub slice_bounds-told_all-start-2 : goal.slice_bounds-told_all-start-2
 slice_bounds-told_all-start-2 c = omega (arith, whole (goal.at.slice_bounds-told_all-start-2 c).Else-file-eq0)
 
 pub returns : goal.returns
-returns c = told_stretches _ _ _ c.requires _ c.told_all-2.ensures
+returns c = told_stretches _ _ c.requires _ c.told_all-2.ensures

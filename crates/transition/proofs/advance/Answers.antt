@@ -21,10 +21,10 @@ write-requires-clause-size c = c.requires.1
 pub write-requires-clause-planned : goal.write-requires-clause-planned
 write-requires-clause-planned c = (health_of c.args.ring.health, c.plan-planned.ensures.commanded, choices-planned (goal.at.write-requires-clause-planned c).After-plan-planned)
 
-pub returns-in-Served : goal.returns-in-Served
-returns-in-Served c = let whole = advance_served _ c.requires.1 _ (commands-planned (goal.at.returns-in-Served c).After-plan-planned) _ (choices-planned (goal.at.returns-in-Served c).After-plan-planned) _ _ _ _ c.write.ensures.answer c.write.ensures.bytes
-    c.in-Served.is in record { answer = whole.0; bytes = whole.1.0; number = whole.1.1.0; values = whole.1.1.1 }
+pub returns-in-Ok : goal.returns-in-Ok
+returns-in-Ok c = let whole = advance_served _ c.requires.1 _ (commands-planned (goal.at.returns-in-Ok c).After-plan-planned) _ (choices-planned (goal.at.returns-in-Ok c).After-plan-planned) _ _ _ _ c.write.ensures.answer c.write.ensures.bytes
+    c.in-Ok.is in record { answer = whole.0; bytes = whole.1.0; number = whole.1.1.0; values = whole.1.1.1 }
 
-pub returns-in-Refused : goal.returns-in-Refused
-returns-in-Refused c = let whole = advance_refused _ c.requires.1 _ (commands-planned (goal.at.returns-in-Refused c).After-plan-planned) _ (choices-planned (goal.at.returns-in-Refused c).After-plan-planned) _ _ _ _ c.write.ensures.answer c.write.ensures.bytes _
-    c.in-Refused.is _ c.refused.ensures in record { answer = whole.0; bytes = whole.1.0; number = whole.1.1.0; values = whole.1.1.1 }
+pub returns-in-Err : goal.returns-in-Err
+returns-in-Err c = let whole = advance_refused _ c.requires.1 _ (commands-planned (goal.at.returns-in-Err c).After-plan-planned) _ (choices-planned (goal.at.returns-in-Err c).After-plan-planned) _ _ _ _ c.write.ensures.answer c.write.ensures.bytes _
+    c.in-Err.is _ c.refused.ensures in record { answer = whole.0; bytes = whole.1.0; number = whole.1.1.0; values = whole.1.1.1 }

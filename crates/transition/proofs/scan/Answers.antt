@@ -20,12 +20,12 @@ pub advance-requires : goal.advance-requires
 advance-requires c =
     scanned_size _ c.requires c.args.scan _ c.told-told.ensures
 
-pub returns-in-Served : goal.returns-in-Served
+pub returns-in-Ok : goal.returns-in-Ok
 unfolding scan_reply
-returns-in-Served c = let whole = scan_advanced _ c.requires c.args.scan (omega (arith, facts)) c.args.buffer.now _ c.check.ensures.answer _
-    c.in-Served.is _ _ _ (c.advance.ensures.answer, (c.advance.ensures.bytes, (c.advance.ensures.number, c.advance.ensures.values))) c.told-told.ensures refl in record { answer = whole.0; bytes = whole.1.0; number = whole.1.1.0; values = whole.1.1.1 }
+returns-in-Ok c = let whole = scan_advanced _ c.requires c.args.scan (omega (arith, facts)) c.args.buffer.now _ c.check.ensures.answer _
+    c.in-Ok.is _ _ _ (c.advance.ensures.answer, (c.advance.ensures.bytes, (c.advance.ensures.number, c.advance.ensures.values))) c.told-told.ensures refl in record { answer = whole.0; bytes = whole.1.0; number = whole.1.1.0; values = whole.1.1.1 }
 
-pub returns-in-Refused : goal.returns-in-Refused
+pub returns-in-Err : goal.returns-in-Err
 unfolding scan_reply
-returns-in-Refused c = let whole = scan_refused _ c.requires c.args.scan (omega (arith, facts)) c.args.buffer.now _ c.check.ensures.answer _ _
-    c.in-Refused.is c.refused-in-Refused.ensures in record { answer = whole.0; bytes = whole.1.0; number = whole.1.1.0; values = whole.1.1.1 }
+returns-in-Err c = let whole = scan_refused _ c.requires c.args.scan (omega (arith, facts)) c.args.buffer.now _ c.check.ensures.answer _ _
+    c.in-Err.is c.refused-in-Err.ensures in record { answer = whole.0; bytes = whole.1.0; number = whole.1.1.0; values = whole.1.1.1 }

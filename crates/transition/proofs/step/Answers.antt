@@ -13,12 +13,12 @@ unfolding told
 advance-requires c =
     omega (arith, ap (λ (ring : Ring). ring.n) c.told.ensures, good_size c.args.ring c.requires)
 
-pub returns-in-Served : goal.returns-in-Served
+pub returns-in-Ok : goal.returns-in-Ok
 unfolding step_reply
-returns-in-Served c = let whole = step_advanced _ c.requires _ c.args.buffer.now _ c.check_report.ensures.answer _ c.in-Served.is _ _ _
+returns-in-Ok c = let whole = step_advanced _ c.requires _ c.args.buffer.now _ c.check_report.ensures.answer _ c.in-Ok.is _ _ _
     (c.advance.ensures.answer, (c.advance.ensures.bytes, (c.advance.ensures.number, c.advance.ensures.values))) c.told.ensures refl in record { answer = whole.0; bytes = whole.1.0; number = whole.1.1.0; values = whole.1.1.1 }
 
-pub returns-in-Refused : goal.returns-in-Refused
+pub returns-in-Err : goal.returns-in-Err
 unfolding step_reply
-returns-in-Refused c = let whole = step_refused _ c.requires _ c.args.buffer.now _ c.check_report.ensures.answer _ _ c.in-Refused.is
+returns-in-Err c = let whole = step_refused _ c.requires _ c.args.buffer.now _ c.check_report.ensures.answer _ _ c.in-Err.is
     c.refused.ensures in record { answer = whole.0; bytes = whole.1.0; number = whole.1.1.0; values = whole.1.1.1 }
