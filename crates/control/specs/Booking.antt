@@ -1,31 +1,33 @@
 -- A booking and a cancellation, by the first of their conditions that is met.
-use Rattle.std.specs.Prelude.{◌≡◌, refl, Bool, true, false, ℕ, ◌≤◌, ◌<◌}
-use Rattle.std.proofs.Common.{arith}
+use Rattle.std.specs.Prelude.{◌≡◌, refl, Bool, true, false, ℕ, ◌≤◌, ◌<◌, Ok}
+use Rattle.std.proofs.Common.{ap, arith}
 use borrow.Author.Tests.{lt-ltb, le-ltb, ne_eqb}
 use Rattle.model.specs.declared.Booking.{Booking}
 use Rattle.model.specs.declared.Load.{Load}
 use Rattle.model.specs.declared.RingState.{RingState}
 use Rattle.model.specs.declared.BookingAnswer.{BookingAnswer}
-use Rattle.model.specs.declared.Outcome.TheVariants.{Served}
-use Rattle.model.specs.Values.{outcome_number}
+use Rattle.model.specs.declared.Refusal.{Refusal}
+use Rattle.model.specs.Values.{refusal_number, outcome_number}
 use Rattle.model.specs.Refusals.{first_met, bus_outside}
 use Rattle.model.specs.Bookings.{most_live, live_bookings, watts_outside, is_live, no_place}
 use Rattle.model.specs.States.{reckoned, bad_record, book_refusal, cancel_refusal, booking_by, refused_booking}
+use Rattle.model.specs.Laws.Refusals.{refusal_named, refusal_positive}
 use Rattle.components.specs.Tests.{is_true, is_false}
 
 -- a call of refusal k answers r: its whole answer and its number
 abbrev pub BookingGives : ℕ → RingState → Load → BookingAnswer → Type 0
 BookingGives k state load r = (r ≡ booking_by k state load) × (outcome_number r.outcome ≡ k)
 
--- refused by m; j is the number that the code refuses by
-pub gives_unbooked : (k : ℕ) (state : RingState) (load : Load) (r : BookingAnswer) (j m : ℕ) → r ≡ refused_booking j state → k ≡ m → j ≡ m
-    → 0 < m
+-- refused
+pub gives_unbooked : (k : ℕ) (state : RingState) (load : Load) (r : BookingAnswer) (x : Refusal) → r ≡ refused_booking (refusal_number x) state
+    → k ≡ refusal_number x
     → BookingGives k state load r
-gives_unbooked k state load r j m is e f h = rw (e, is, f, ne_eqb m 0 (λ z. omega arith)) (refl, refl)
+gives_unbooked k state load r x is e =
+    rw (e, is, ne_eqb (refusal_number x) 0 (λ z. omega (arith, z, refusal_positive x))) (refl, ap refusal_number (refusal_named x))
 
 pub gives_booked : (k : ℕ) (state : RingState) (load next : Load) (after : RingState) → after ≡ reckoned state.ring next → next ≡ load
     → k ≡ 0
-    → BookingGives k state load (record { outcome = Served; state = after })
+    → BookingGives k state load (record { outcome = Ok tt; state = after })
 gives_booked k state load next after is e f = rw (f, is, e) (refl, refl)
 
 -- a test that holds, and one that fails

@@ -1,12 +1,12 @@
 -- The replies to a start, a step and a scan: the inner answer with the load beside the ring.
-use Rattle.std.specs.Prelude.{◌≡◌, true, false, ◌⊎◌, ◌≢◌, List, ℕ, ◌≤◌, length}
+use Rattle.std.specs.Prelude.{◌≡◌, true, false, ◌⊎◌, ◌≢◌, List, ℕ, ◌≤◌, length, Ok}
 use Rattle.std.proofs.Common.{sym, ◌∙◌, ap, inl, inr, arith}
 use mathlib.Core.List.Memᴰ
 use borrow.Author.Tests.{eq-eqb, ne_eqb}
 use Rattle.model.specs.declared.Load.{Load}
 use Rattle.model.specs.declared.Ring.{Ring}
 use Rattle.model.specs.declared.RingState.{RingState}
-use Rattle.model.specs.declared.Outcome.TheVariants.{Served}
+use Rattle.model.specs.declared.Refusal.TheVariants.{SizeOutside, BadRecord}
 use Rattle.model.specs.declared.RingAnswer.{RingAnswer}
 use Rattle.model.specs.declared.StateAnswer.{StateAnswer}
 use Rattle.model.specs.Values.{outcome_number, choice_values}
@@ -17,7 +17,7 @@ use Rattle.model.specs.Answers.{refused_answer, refused_reply, served_answer, se
 use Rattle.model.specs.Bookings.{most_live, live_bookings, no_load}
 use Rattle.model.specs.States.{unloaded, reckoned, bad_record, state_refusal, refused_state, served_state, state_by}
 use Rattle.model.specs.Laws.Tests.{dec_eq}
-use Rattle.model.specs.Laws.Refusals.{served_refused}
+use Rattle.model.specs.Laws.Refusals.{is_number, served_refused}
 use Rattle.model.specs.Laws.Answers.{Gives, gives_refused}
 use Rattle.model.specs.Laws.Bookings.{AllBookable, OnRing}
 use Rattle.theory.specs.Proofs.Choosing.{choices_inside}
@@ -61,7 +61,7 @@ module _ (k : ℕ) (ring kept : Ring) (load : Load) (buffer after : List ℕ) (a
 
 -- where an inner call is served, its choices are those of the ring that was told its reports
 pub served_choices : (k : ℕ) (ring kept : Ring) (buffer after : List ℕ) (a : RingAnswer) → Gives k ring kept buffer a after
-    → a.outcome ≡ Served
+    → a.outcome ≡ Ok tt
     → a.choices ≡ called_for ring
 unfolding served_reply served_answer
 served_choices k ring kept buffer after a gives e =
@@ -74,7 +74,7 @@ pub on_ring : (k : ℕ) (ring kept : Ring) (buffer after : List ℕ) (a : RingAn
     → ring.n ≤ largest
     → load.live ≤ most_live
     → AllBookable ring.n (live_bookings load)
-    → a.outcome ≡ Served
+    → a.outcome ≡ Ok tt
     → (load.live ≤ most_live) × OnRing a.choices (live_bookings load)
 on_ring k ring kept buffer after a gives load small few all e = (
   few,
@@ -87,7 +87,7 @@ on_ring k ring kept buffer after a gives load small few all e = (
 )
 
 -- a refused answer is not served
-pub never_served : {A : Type 0} (k : ℕ) (ring : Ring) {a : RingAnswer} → a ≡ refused_answer k ring → a.outcome ≡ Served → A
+pub never_served : {A : Type 0} (k : ℕ) (ring : Ring) {a : RingAnswer} → a ≡ refused_answer k ring → a.outcome ≡ Ok tt → A
 unfolding refused_answer
 never_served k ring is e = served_refused e (ap (λ (x : RingAnswer). x.outcome) is)
 
@@ -104,7 +104,7 @@ module _ (n : ℕ) (buffer : List ℕ) (a : RingAnswer) (load : Load) (none : lo
   -- 2 comes first; k is the number that the code refuses by
   pub start_refused : (k : ℕ) (kept : Ring) → size_outside n ≡ true → a ≡ refused_answer k kept → k ≡ 2 → kept ≡ blank_ring 0 → Starts buffer
   unfolding start_refusal first_met
-  start_refused k kept e back f g = start_inner buffer (rw e (gives_refused 2 _ _ _ _ (λ z. omega arith) (back ∙ rw (f, g))))
+  start_refused k kept e back f g = start_inner buffer (rw e (gives_refused 2 _ _ _ _ (is_number SizeOutside) (λ z. omega arith) (back ∙ rw (f, g))))
 
 -- a load without bookings is within its bounds
 pub none_bookable : (n : ℕ) (load : Load) → load ≡ no_load → (load.live ≤ most_live) × AllBookable n (live_bookings load)
@@ -122,7 +122,7 @@ module _ (state : RingState) (k : ℕ) (ring : Ring) (buffer : List ℕ) (a : Ri
     pub bad_refused : (j : ℕ) (kept : Ring) → bad_record state ≡ true → a ≡ refused_answer j kept → j ≡ 9 → kept ≡ state.ring → Answers buffer
     unfolding state_refusal first_met
     bad_refused j kept e back f g =
-        gives_state _ ring state.ring state.load buffer buffer a r is (rw e (gives_refused 9 _ _ _ _ (λ z. omega arith) (back ∙ rw (f, g))))
+        gives_state _ ring state.ring state.load buffer buffer a r is (rw e (gives_refused 9 _ _ _ _ (is_number BadRecord) (λ z. omega arith) (back ∙ rw (f, g))))
 
     pub good_inner : (after : List ℕ) → bad_record state ≡ false → Gives k ring state.ring buffer a after → Answers after
     unfolding state_refusal first_met

@@ -3,7 +3,7 @@
 #![tactic(auto)]
 
 ghost use Rattle.std.specs.Prelude.{◌≡◌, [], ◌∷◌, length};
-ghost use Rattle.model.specs.Values.{outcome_number, choice_values};
+ghost use Rattle.model.specs.Values.{refusal_number, outcome_number, choice_values};
 ghost use Rattle.model.specs.Reports.{blank_ring};
 ghost use Rattle.model.specs.Refusals.{start_refusal, step_refusal};
 ghost use Rattle.model.specs.Answers.{call_values};
@@ -21,7 +21,7 @@ ghost use Rattle.model.specs.States.{
   cancel_answer,
 };
 
-use model::{Booking, BookingAnswer, Outcome, Report, RingState, Scan, StateAnswer};
+use model::{Booking, BookingAnswer, Refusal, Report, RingState, Scan, StateAnswer};
 
 // "Starting a ring takes n and gives the record with all parts fit, each bus's choice and the sheet of its first orders."; it checks
 // "2, 8". "A refused start has a record with n = 0".
@@ -33,7 +33,7 @@ pub fn start(n: u8, buffer: &mut [u8]) -> StateAnswer
 {
     let load = rings::no_load();
     if components::size_outside(n) {
-        return reckoning::with_load(rings::refused(2, rings::blank(0)), load);
+        return reckoning::with_load(rings::refused(Refusal::SizeOutside, rings::blank(0)), load);
     }
     reckoning::with_load(transition::start(n, buffer), load)
 }
@@ -50,7 +50,7 @@ pub fn step(state: RingState, report: Report, buffer: &mut [u8]) -> StateAnswer
     let ring = state.ring;
     let load = state.load;
     if records::bad_record(state) {
-        return reckoning::with_load(rings::refused(9, ring), load);
+        return reckoning::with_load(rings::refused(Refusal::BadRecord, ring), load);
     }
     reckoning::with_load(transition::step(ring, report, buffer), load)
 }
@@ -68,17 +68,17 @@ pub fn scan(state: RingState, scan: Scan, buffer: &mut [u8]) -> StateAnswer
     let ring = state.ring;
     let load = state.load;
     if records::bad_record(state) {
-        return reckoning::with_load(rings::refused(9, ring), load); // before its count is looked at
+        return reckoning::with_load(rings::refused(Refusal::BadRecord, ring), load); // before its count is looked at
     }
     reckoning::with_load(transition::scan(ring, scan, buffer), load)
 }
 
 // "Each has its number as the answer, the record as handed in".
-fn unbooked(number: u8, state: RingState) -> BookingAnswer
-    ensures { result ≡ refused_booking «number» state }
+fn unbooked(refusal: Refusal, state: RingState) -> BookingAnswer
+    ensures { result ≡ refused_booking (refusal_number refusal) state }
 {
     BookingAnswer {
-        outcome: Outcome::Refused(number),
+        outcome: Err(refusal),
         state,
     }
 }
@@ -91,23 +91,23 @@ pub fn book(state: RingState, booking: Booking) -> BookingAnswer
     let ring = state.ring;
     let load = state.load;
     if records::bad_record(state) { // before the booking is looked at
-        return unbooked(9, state);
+        return unbooked(Refusal::BadRecord, state);
     }
     if components::bus_outside(ring.n, booking.bus) {
-        return unbooked(10, state);
+        return unbooked(Refusal::BusOutside, state);
     }
     if bookings::watts_outside(booking.watts) {
-        return unbooked(12, state);
+        return unbooked(Refusal::WattsOutside, state);
     }
     if bookings::is_live(load, booking.number) {
-        return unbooked(13, state); // already live
+        return unbooked(Refusal::BookingNumber, state); // already live
     }
     if 64 <= load.live {
-        return unbooked(14, state);
+        return unbooked(Refusal::BookingsFull, state);
     }
     let booked = reckoning::reckoned_load(ring, bookings::with_booking(load, booking));
     BookingAnswer {
-        outcome: Outcome::Served,
+        outcome: Ok(()),
         state: booked,
     }
 }
@@ -120,14 +120,14 @@ pub fn cancel(state: RingState, number: u16) -> BookingAnswer
     let ring = state.ring;
     let load = state.load;
     if records::bad_record(state) {
-        return unbooked(9, state);
+        return unbooked(Refusal::BadRecord, state);
     }
     if !bookings::is_live(load, number) {
-        return unbooked(13, state); // not live
+        return unbooked(Refusal::BookingNumber, state); // not live
     }
     let left = reckoning::reckoned_load(ring, bookings::without_booking(load, number));
     BookingAnswer {
-        outcome: Outcome::Served,
+        outcome: Ok(()),
         state: left,
     }
 }

@@ -3,13 +3,12 @@
 #![tactic(auto)]
 
 ghost use Rattle.std.specs.Prelude.{◌≡◌, ◌≤◌};
-ghost use Rattle.model.specs.declared.Outcome.TheVariants.{Served};
 ghost use Rattle.model.specs.Bookings.{live_bookings};
 ghost use Rattle.model.specs.States.{reckoned};
 ghost use Rattle.model.specs.Laws.Bookings.{AllBookable, OnRing};
 ghost use Rattle.reckoning.specs.Loads.{with_load};
 
-use model::{Load, Outcome, Ring, RingAnswer, RingState, StateAnswer};
+use model::{Load, Ring, RingAnswer, RingState, StateAnswer};
 
 // "after each booking, cancellation, step or scan it gives every generator's watts, kept up to date": a load on a ring whose choices are
 // planned anew. "Choices don't depend on load."
@@ -30,26 +29,26 @@ pub fn reckoned_load(ring: Ring, load: Load) -> RingState
 
 // The answer of an inner call, with the load beside the ring: "kept up to date" where it was served, as it was where it was refused.
 pub fn with_load(answer: RingAnswer, load: Load) -> StateAnswer
-    requires { answer.outcome ≡ Served → (load.live ≤ 64) × OnRing answer.choices (live_bookings load) }
+    requires { answer.outcome ≡ Ok tt → (load.live ≤ 64) × OnRing answer.choices (live_bookings load) }
     ensures { result ≡ with_load answer load }
 {
     let outcome = answer.outcome;
     let ring = answer.ring;
     let choices = answer.choices;
     match outcome {
-        Outcome::Served => {
+        Ok(()) => {
             let anew = figures::with_figures(choices, load);
             let state = RingState { ring, load: anew };
             StateAnswer {
-                outcome: Outcome::Served,
+                outcome: Ok(()),
                 state,
                 choices,
             }
         }
-        Outcome::Refused(number) => {
+        Err(refusal) => {
             let state = RingState { ring, load };
             StateAnswer {
-                outcome: Outcome::Refused(number),
+                outcome: Err(refusal),
                 state,
                 choices,
             }

@@ -4,10 +4,10 @@ use Rattle.reckoning.specs.Loads.{served_load, refused_load}
 use Rattle.reckoning.proofs.with_load.Goals as goal
 
 pub with_figures-anew-requires : goal.with_figures-anew-requires
-with_figures-anew-requires c = let whole = c.requires c.in-Served.is in record { live = whole.0; ring = whole.1 }
+with_figures-anew-requires c = let whole = c.requires c.in-Ok.is in record { live = whole.0; ring = whole.1 }
 
-pub returns-in-Served : goal.returns-in-Served
-returns-in-Served c = served_load c.args.answer c.args.load _ (search rules) (search rules)
+pub returns-in-Ok : goal.returns-in-Ok
+returns-in-Ok c = served_load c.args.answer c.args.load _ (search rules) (search rules)
 
-pub returns-in-Refused : goal.returns-in-Refused
-returns-in-Refused c = refused_load c.args.answer c.args.load _ _ (search rules) (search rules)
+pub returns-in-Err : goal.returns-in-Err
+returns-in-Err c = refused_load c.args.answer c.args.load _ _ (search rules) (search rules)
