@@ -1,7 +1,8 @@
 -- The search over the sources of a bus and their paths: what a path is asked, and what is left to try.
 -- Buses, generators and breakers are indices from 0; an owner is a generator's number, from 1, or 0.
-use Rattle.std.specs.Prelude.{◌≡◌, refl, Bool, true, false, not, ◌&&◌, cond, ◌⊎◌, ◌≢◌, ltb, eqb, drop}
-use Rattle.std.proofs.Common.{sym, ◌∙◌, inl, inr, arith, drop_of_length-le, drop-cons, ltb-true, lt-ltb, le-ltb, eq-eqb, ne_eqb, le-leb}
+use Rattle.std.specs.Prelude.{Option as Answer, Some, None}
+use Rattle.std.specs.Prelude.{◌≡◌, refl, Bool, true, false, not, ◌&&◌, ◌⊎◌, ◌≢◌, drop}
+use Rattle.std.proofs.Common.{sym, ◌∙◌, inl, inr, arith, drop_of_length-le, drop-cons, eq-eqb, ne_eqb, le-leb}
 use Rattle.std.proofs.Math.Bool.{and-false}
 use mathlib.Core.List.{List, [], ◌∷◌, ◌++◌, flat_map}
 use Rattle.std.proofs.Math.Option.{Option, none, some}
@@ -18,8 +19,7 @@ use Rattle.theory.specs.Proofs.Geometry.{up_lt}
 use Rattle.theory.specs.Theorems.Priorities.{sources_length}
 use Rattle.theory.specs.Proofs.Paths.{lower, upper, Ends, lower_lt, upper_lt, sources_at, from_at, path_to}
 use Rattle.paths.specs.declared.Span.{Span}
-use Rattle.paths.specs.declared.Found.{Found}
-use Rattle.paths.specs.declared.Found.TheVariants as found
+use Rattle.paths.specs.declared.Path.{Path as Found}
 use Rattle.walks.specs.Arrays.{at}
 use Rattle.walks.specs.Walk.{free, clear_at}
 use Rattle.paths.specs.Owner.{path_steps, clear_path, ends_in}
@@ -37,29 +37,25 @@ abbrev pub candidate_by : List Bool → List ℕ → ℕ → ℕ → Bool
 candidate_by usable owners b g = get_or usable g false && (free (get_or owners b 0) (suc g) && free (get_or owners g 0) (suc g))
 
 -- the path to bus b that an answer names
-abbrev pub path_found : ℕ → Found → Option Path
-path_found b found.Nothing = none
-path_found b (found.Path g r) = some (path_to b g r)
+abbrev pub path_found : ℕ → Answer Found → Option Path
+path_found b None = none
+path_found b (Some w) = some (path_to b w.source w.rising)
 
--- path p of generator g to bus b, 0 high and 1 low, runs through rising bus numbers
-abbrev pub path_rises : ℕ → ℕ → ℕ → ℕ → Bool
-path_rises n b g p = cond (eqb p 0) (high_rises n g b) (not (high_rises n g b))
+-- both paths of generator g to bus b, the high one first; an own path is both
+abbrev pub both_paths : ℕ → ℕ → ℕ → List Path
+both_paths n b g = path_to b g (high_rises n g b) ∷ path_to b g (not (high_rises n g b)) ∷ []
 
--- the number of paths of generator g to bus b
-abbrev pub path_count : ℕ → ℕ → ℕ
-path_count b g = cond (eqb g b) 1 2
+-- the one tried at index i, where the high one rises or not
+abbrev pub tried : ℕ → ℕ → Bool → ℕ → Path
+tried b g high i = path_to b g (get_or (high ∷ not high ∷ []) i false)
 
 -- the paths of the sources from place r on
 abbrev pub paths_after : ℕ → ℕ → ℕ → List Path
 paths_after n b r = flat_map (paths_from n b) (drop r (sources n b))
 
--- .. and before them those of the source at place r from path p on
+-- .. and before them those of the source at place r, but for the first i
 abbrev pub paths_left : ℕ → ℕ → ℕ → ℕ → List Path
-paths_left n b r p = drop p (paths_from n b (get_or (sources n b) r 0)) ++ paths_after n b (r + 1)
-
--- what a turn of the search finds: generator g has a path p to bus b, and the walk along it is clear
-unfoldable pub tried_by : ℕ → List ℕ → List ℕ → ℕ → ℕ → ℕ → Bool
-tried_by n breakers owners b g p = ltb p (path_count b g) && clear_path n (at breakers) (at owners) (path_to b g (path_rises n b g p))
+paths_left n b r i = drop i (both_paths n b (get_or (sources n b) r 0)) ++ paths_after n b (r + 1)
 
 -- a path's span begins in the ring and has fewer breakers than the ring
 pub span_lt : (n b g : ℕ) (r : Bool) → b < n → g < n → ((span_of n (path_to b g r)).from < n) × ((span_of n (path_to b g r)).steps < n)
@@ -68,7 +64,7 @@ span_lt n b g r hb hg =
     let h : Ends n w = record { source = hg; bus = hb } in
     (lower_lt h, up_lt n (lower w) (upper w) (lower_lt h) (upper_lt h))
 
--- ---- a path's direction and a generator's number of paths, by cases of the numbers: however the code words its test
+-- ---- a path's direction, by cases of the numbers: however the code words its test
 
 pub high_by : (n g b : ℕ) (t : Bool) → (up n g b ≤ up n b g → t ≡ false → ⊥) → (up n b g < up n g b → t ≡ true → ⊥) → t ≡ high_rises n g b
 unfolding high_rises
@@ -79,53 +75,6 @@ high_by n g b t p q = go (dec_lt (up n b g) (up n g b)) (dec t)
     go (inl l) (inr e) = rw (lt-leb (up n g b) (up n b g) l) e
     go (inr l) (inl e) = rw (le-leb (up n g b) (up n b g) l) e
     go (inr l) (inr e) = absurd (p l e)
-
-pub count_by : (b g : ℕ) {r : ℕ} → (g ≡ b → r ≡ 1) → (g ≢ b → r ≡ 2) → r ≡ path_count b g
-count_by b g {r} own two = go (dec_eq g b)
-  where
-    go : (g ≡ b) ⊎ (g ≢ b) → r ≡ path_count b g
-    go (inl e) = rw (eq-eqb g b e) (own e)
-    go (inr e) = rw (ne_eqb g b e) (two e)
-
-pub rises_by : (n b g p : ℕ) {t : Bool} → (p ≡ 0 → t ≡ high_rises n g b) → (p ≢ 0 → t ≡ not (high_rises n g b)) → t ≡ path_rises n b g p
-rises_by n b g p {t} h l = go (dec_eq p 0)
-  where
-    go : (p ≡ 0) ⊎ (p ≢ 0) → t ≡ path_rises n b g p
-    go (inl e) = rw (eq-eqb p 0 e) (h e)
-    go (inr e) = rw (ne_eqb p 0 e) (l e)
-
--- ---- the paths of one generator
-
-own_rises : (n g : ℕ) → high_rises n g g ≡ true
-unfolding high_rises
-own_rises n g = le-leb (up n g g) (up n g g) (omega arith)
-
-paths_next : (n b g p : ℕ) → p < path_count b g → drop p (paths_from n b g) ≡ path_to b g (path_rises n b g p) ∷ drop (p + 1) (paths_from n b g)
-unfolding paths_from
-paths_next n b g p l = go p l (dec_eq g b)
-  where
-    go : (p : ℕ) → p < path_count b g → (g ≡ b) ⊎ (g ≢ b)
-        → drop p (paths_from n b g) ≡ path_to b g (path_rises n b g p) ∷ drop (p + 1) (paths_from n b g)
-    go zero l (inl e) = rw (eq-eqb g b e, e, own_rises n b)
-    go (suc p) l (inl e) = let z : suc p < 1 = rw (eq-eqb g b e) at l in absurd (omega arith)
-    go zero l (inr e) = rw (ne_eqb g b e)
-    go (suc zero) l (inr e) = rw (ne_eqb g b e)
-    go (suc (suc p)) l (inr e) = let z : suc (suc p) < 2 = rw (ne_eqb g b e) at l in absurd (omega arith)
-
-paths_done : (n b g p : ℕ) → path_count b g ≤ p → drop p (paths_from n b g) ≡ []
-unfolding paths_from
-paths_done n b g p l = go (dec (eqb g b))
-  where
-    go : (eqb g b ≡ true) ⊎ (eqb g b ≡ false) → drop p (paths_from n b g) ≡ []
-    go (inl e) = rw e (drop_of_length-le (path_to b b true ∷ []) (rw e at l))
-    go (inr e) = rw e (drop_of_length-le (path_to b g (high_rises n g b) ∷ path_to b g (not (high_rises n g b)) ∷ []) (rw e at l))
-
-count_most : (b g p : ℕ) → 2 ≤ p → path_count b g ≤ p
-count_most b g p l = go (dec (eqb g b))
-  where
-    go : (eqb g b ≡ true) ⊎ (eqb g b ≡ false) → path_count b g ≤ p
-    go (inl e) = rw e (omega arith)
-    go (inr e) = rw e l
 
 -- ---- one turn
 
@@ -156,17 +105,30 @@ candidate_paths n usable breakers owners b g hb hg out w m = go (dec (passes_by 
         (rw (ends.0, ends.1) out)
     go (inr e) = e
 
-module _ (n : ℕ) (breakers owners : List ℕ) (b g p : ℕ) where
-  -- the generator has no such path
-  pub tried_none : path_count b g ≤ p → false ≡ tried_by n breakers owners b g p
-  unfolding tried_by
-  tried_none l = rw (le-ltb p (path_count b g) l)
+-- an own path passes whichever way it is tried: it has no breakers
+own_both : (n : ℕ) (usable : List Bool) (breakers owners : List ℕ) (b : ℕ)
+    → passes_by n usable breakers owners (path_to b b true) ≡ passes_by n usable breakers owners (path_to b b false)
+unfolding passes_by
+own_both n usable breakers owners b = refl
 
-  -- it has one, which is clear as its walk says
-  pub tried_walk : {rising t : Bool} → p < path_count b g → rising ≡ path_rises n b g p
-      → t ≡ clear_path n (at breakers) (at owners) (path_to b g rising) → t ≡ tried_by n breakers owners b g p
-  unfolding tried_by
-  tried_walk l e d = rw (lt-ltb p (path_count b g) l, ← e) d
+own_high : (n b : ℕ) → high_rises n b b ≡ true
+unfolding high_rises
+own_high n b = le-leb (up n b b) (up n b b) (omega arith)
+
+-- so a search of the paths of a generator is one of both
+search_both : (n : ℕ) (usable : List Bool) (breakers owners : List ℕ) (b g : ℕ) (rest : List Path)
+    → first (passes_by n usable breakers owners) (paths_from n b g ++ rest) ≡ first (passes_by n usable breakers owners) (both_paths n b g ++ rest)
+unfolding paths_from first
+search_both n usable breakers owners b g rest = go (dec_eq g b) (dec (P (path_to b b true)))
+  where
+    P : Path → Bool
+    P = passes_by n usable breakers owners
+
+    go : (g ≡ b) ⊎ (g ≢ b) → (P (path_to b b true) ≡ true) ⊎ (P (path_to b b true) ≡ false)
+        → first P (paths_from n b g ++ rest) ≡ first P (both_paths n b g ++ rest)
+    go (inl e) (inl t) = rw (e, eq-eqb b b refl, own_high n b, t)
+    go (inl e) (inr t) = rw (e, eq-eqb b b refl, own_high n b, t, ← own_both n usable breakers owners b, t)
+    go (inr e) t = rw (ne_eqb g b e)
 
 -- ---- the row of a bus
 
@@ -198,80 +160,66 @@ module _ {n b r : ℕ} {row : List ℕ} (hb : b < n) (hr : r < n) (is : row ≡ 
 -- ---- what the search has left
 
 -- nothing is found yet, and the whole search is the search of the paths ws
-pub record Left (n : ℕ) (usable : List Bool) (breakers owners : List ℕ) (b : ℕ) (f : Found) (ws : List Path) : Type 0 where
-  pub nothing : f ≡ found.Nothing
+pub record Left (n : ℕ) (usable : List Bool) (breakers owners : List ℕ) (b : ℕ) (f : Answer Found) (ws : List Path) : Type 0 where
+  pub nothing : f ≡ None
   pub left : first (passes_by n usable breakers owners) (paths n b) ≡ first (passes_by n usable breakers owners) ws
 
-module _ {n : ℕ} {usable : List Bool} {breakers owners : List ℕ} {b : ℕ} {f : Found} where
-  -- the next generator: all of its paths are left
+module _ {n : ℕ} {usable : List Bool} {breakers owners : List ℕ} {b : ℕ} {f : Answer Found} where
+  -- the next generator: both of its paths are left
   pub left_source : (r : ℕ) → b < n → r < n → Left n usable breakers owners b f (paths_after n b r)
       → Left n usable breakers owners b f (paths_left n b r 0)
   unfolding flat_map
   left_source r hb hr l = record {
     nothing = l.nothing;
-    left = l.left ∙ rw (drop-cons (sources n b) r 0 (rw (sources_length n b hb) hr), add-one r);
+    left = l.left
+        ∙ rw (drop-cons (sources n b) r 0 (rw (sources_length n b hb) hr), add-one r)
+        (search_both n usable breakers owners b (get_or (sources n b) r 0) (paths_after n b (suc r)));
   }
 
   -- it is no candidate: none of them passes
   pub left_out : (r : ℕ) {g : ℕ} {k : Bool} → b < n → r < n → g < n → g ≡ get_or (sources n b) r 0
       → k ≡ candidate_by usable owners b g → k ≡ false
       → Left n usable breakers owners b f (paths_after n b r) → Left n usable breakers owners b f (paths_after n b (r + 1))
-  left_out r {g} hb hr hg e c z l =
-      let s = left_source r hb hr l in
-      record {
-        nothing = l.nothing;
-        left = s.left
-            ∙ first_past (passes_by n usable breakers owners) (paths_from n b (get_or (sources n b) r 0)) (paths_after n b (r + 1))
-            (candidate_paths n usable breakers owners b (get_or (sources n b) r 0) hb (rw (← e) hg) (rw (← e) (sym c ∙ z)));
-      }
+  unfolding flat_map
+  left_out r {g} hb hr hg e c z l = record {
+    nothing = l.nothing;
+    left = l.left
+        ∙ rw (drop-cons (sources n b) r 0 (rw (sources_length n b hb) hr), add-one r)
+        (first_past (passes_by n usable breakers owners) (paths_from n b (get_or (sources n b) r 0)) (paths_after n b (suc r))
+        (candidate_paths n usable breakers owners b (get_or (sources n b) r 0) hb (rw (← e) hg) (rw (← e) (sym c ∙ z))));
+  }
 
-  -- its path p does not pass
-  pub left_miss : (r p : ℕ) {g : ℕ} {t : Bool} → g ≡ get_or (sources n b) r 0 → t ≡ tried_by n breakers owners b g p → t ≡ false
-      → Left n usable breakers owners b f (paths_left n b r p) → Left n usable breakers owners b f (paths_left n b r (p + 1))
-  unfolding tried_by passes_by first
-  left_miss r p e d z l = record { nothing = l.nothing; left = l.left ∙ go (dec_lt p (path_count b s)) }
-    where
-      s : ℕ
-      s = get_or (sources n b) r 0
+  -- the path tried, of a candidate, passes as the walk along it says
+  module _ (r i : ℕ) {g : ℕ} {high t : Bool} (few : i < 2) (e : g ≡ get_or (sources n b) r 0) (h : high ≡ high_rises n g b)
+      (way : t ≡ clear_path n (at breakers) (at owners) (tried b g high i))
+      (l : Left n usable breakers owners b f (paths_left n b r i)) where
+    next_left : paths_left n b r i ≡ tried b g high i ∷ paths_left n b r (i + 1)
+    next_left = rw (← e, h) (go i few)
+      where
+        go : (j : ℕ) → j < 2 → drop j (both_paths n b g) ++ paths_after n b (r + 1)
+            ≡ tried b g (high_rises n g b) j ∷ drop (j + 1) (both_paths n b g) ++ paths_after n b (r + 1)
+        go zero k = refl
+        go (suc zero) k = refl
+        go (suc (suc j)) k = absurd (omega arith)
 
-      missed : tried_by n breakers owners b s p ≡ false
-      missed = rw e at (sym d ∙ z)
+    pub left_miss : t ≡ false → Left n usable breakers owners b f (paths_left n b r (i + 1))
+    unfolding first passes_by
+    left_miss z = record {
+      nothing = l.nothing;
+      left = l.left ∙ rw (next_left, ← way, z, and-false (get_or usable g false));
+    }
 
-      go : (p < path_count b s) ⊎ (path_count b s ≤ p)
-          → first (passes_by n usable breakers owners) (paths_left n b r p)
-          ≡ first (passes_by n usable breakers owners) (paths_left n b r (p + 1))
-      go (inl h) = rw (paths_next n b s p h, rw (lt-ltb p (path_count b s) h) at missed, and-false (get_or usable s false))
-      go (inr h) = rw (paths_done n b s p h, paths_done n b s (p + 1) (omega arith))
-
-  -- or does
-  pub left_hit : (r p : ℕ) {g : ℕ} {k t rising : Bool} → g ≡ get_or (sources n b) r 0 → k ≡ candidate_by usable owners b g → k ≡ true
-      → t ≡ tried_by n breakers owners b g p → t ≡ true
-      → rising ≡ path_rises n b g p → Left n usable breakers owners b f (paths_left n b r p)
-      → some (path_to b g rising) ≡ first (passes_by n usable breakers owners) (paths n b)
-  unfolding tried_by passes_by first
-  left_hit r p e c y d z q l = rw (q, e) (sym (l.left ∙ rw (paths_next n b s p count, usable_source, passed)))
-    where
-      s : ℕ
-      s = get_or (sources n b) r 0
-
-      found : tried_by n breakers owners b s p ≡ true
-      found = rw e at (sym d ∙ z)
-
-      usable_source : get_or usable s false ≡ true
-      usable_source = and_left (get_or usable s false) _ (rw e at (sym c ∙ y))
-
-      count : p < path_count b s
-      count = omega (arith, ltb-true p (path_count b s) (and_left (ltb p (path_count b s)) _ found))
-
-      passed : clear_path n (at breakers) (at owners) (path_to b s (path_rises n b s p)) ≡ true
-      passed = and_right (ltb p (path_count b s)) _ found
+    pub left_hit : {k : Bool} → k ≡ candidate_by usable owners b g → k ≡ true → t ≡ true
+        → some (tried b g high i) ≡ first (passes_by n usable breakers owners) (paths n b)
+    unfolding first passes_by
+    left_hit c y z = sym (l.left ∙ rw (next_left, and_left (get_or usable g false) _ (sym c ∙ y), ← way, z))
 
   -- it has no path more
-  pub left_next : (r p : ℕ) → 2 ≤ p → Left n usable breakers owners b f (paths_left n b r p)
+  pub left_next : (r i : ℕ) → 2 ≤ i → Left n usable breakers owners b f (paths_left n b r i)
       → Left n usable breakers owners b f (paths_after n b (r + 1))
-  left_next r p h l = record {
+  left_next r i h l = record {
     nothing = l.nothing;
-    left = l.left ∙ rw (paths_done n b (get_or (sources n b) r 0) p (count_most b (get_or (sources n b) r 0) p h));
+    left = l.left ∙ rw (drop_of_length-le (both_paths n b (get_or (sources n b) r 0)) {i = i} h);
   }
 
   -- there is no generator more
@@ -284,6 +232,6 @@ module _ {n : ℕ} {usable : List Bool} {breakers owners : List ℕ} {b : ℕ} {
 
 -- before the first turn
 pub left_start : (n : ℕ) (usable : List Bool) (breakers owners : List ℕ) (b : ℕ)
-    → Left n usable breakers owners b found.Nothing (paths_after n b 0)
+    → Left n usable breakers owners b None (paths_after n b 0)
 unfolding paths
 left_start n usable breakers owners b = record { nothing = refl; left = refl }

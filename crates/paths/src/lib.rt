@@ -6,13 +6,15 @@ ghost use Rattle.std.specs.Prelude.{◌≡◌, ◌-◌, ◌≤◌, ◌<◌, leng
 ghost use Rattle.model.specs.Lists.{first};
 ghost use Rattle.model.specs.Priority.{source_row, high_rises, paths};
 ghost use Rattle.theory.specs.Proofs.Paths.{path_to};
-ghost use Rattle.paths.specs.Search.{passes_by, tried_by, candidate_by, path_found, path_count, path_rises, span_of};
+ghost use Rattle.walks.specs.Arrays.{at};
+ghost use Rattle.paths.specs.Owner.{clear_path};
+ghost use Rattle.paths.specs.Search.{passes_by, candidate_by, path_found, span_of};
 
-// What a search finds: a path's generator, and whether the path runs through rising bus numbers.
-#[derive(Clone, Copy)]
-pub enum Found {
-    Nothing,
-    Path { source: usize, rising: bool },
+// A path to a bus: its generator, and whether it runs through rising bus numbers.
+#[derive(Clone, Copy, PartialEq, Eq)]
+pub struct Path {
+    pub source: usize,
+    pub rising: bool,
 }
 
 // The bus breakers of a path: the bus from which they rise, and how many there are.
@@ -29,23 +31,6 @@ pub fn high_rises(n: usize, b: usize, g: usize) -> bool
     ensures { result ≡ high_rises n g b }
 {
     walks::up(n, g, b) <= walks::up(n, b, g)
-}
-
-// The number of paths from generator g to bus b: "From Gk, bus Bk has one way, its own", "From another generator there are
-// two ways round the ring".
-fn path_count(b: usize, g: usize) -> usize
-    ensures { result ≡ path_count b g }
-{
-    if g == b { 1 } else { 2 }
-}
-
-// Whether path p from generator g to bus b, 0 high and 1 low, runs through rising bus numbers.
-fn rises(n: usize, b: usize, g: usize, p: usize) -> bool
-    requires { (b < n) × (g < n) × (n ≤ 20) }
-    ensures { result ≡ path_rises n b g p }
-{
-    let high = high_rises(n, b, g);
-    if p == 0 { high } else { !high }
 }
 
 // The span of a path from generator g to bus b: "the bus breakers from its own bus to the bus fed, and none beyond".
@@ -82,15 +67,19 @@ fn candidate(row: &[u8], usable: &[bool; 20], owners: &[u8; 20], b: usize, r: us
     false
 }
 
-// Whether generator g, a candidate, has a path p to bus b, 0 high and 1 low, and that path is permitted: the walk along it is clear.
-fn permitted(n: usize, breakers: &[u8; 20], owners: &[u8; 20], b: usize, g: usize, p: usize) -> bool
+// Whether a path to bus b from generator g, a candidate, is permitted: the walk along it is clear.
+fn permitted(
+    n: usize,
+    breakers: &[u8; 20],
+    owners: &[u8; 20],
+    b: usize,
+    g: usize,
+    rising: bool,
+) -> bool
     requires { (b < n) × (g < n) × (n ≤ 20) }
-    ensures { result ≡ tried_by n breakers.now owners.now b g p }
+    ensures { result ≡ clear_path n (at breakers.now) (at owners.now) (path_to b g rising) }
 {
-    if p >= path_count(b, g) {
-        return false;
-    }
-    let span = span_of(n, b, g, rises(n, b, g, p));
+    let span = span_of(n, b, g, rising);
     walks::clear(
         n,
         breakers,
@@ -102,7 +91,8 @@ fn permitted(n: usize, breakers: &[u8; 20], owners: &[u8; 20], b: usize, g: usiz
 }
 
 // The first permitted path of bus b: its sources by priority, which its row of the table holds, and of each the high path before the
-// low one.
+// low one. "From Gk, bus Bk has one way, its own", "From another generator there are two ways round the ring": an own path has no
+// breaker to walk over, whichever way it is tried, so the first try decides.
 pub fn search(
     n: usize,
     row: &[u8],
@@ -110,19 +100,19 @@ pub fn search(
     breakers: &[u8; 20],
     owners: &[u8; 20],
     b: usize,
-) -> Found
+) -> Option<Path>
     requires size { (b < n) × (3 ≤ n) × (n ≤ 20) }
     requires row { row.now ≡ source_row n b }
     ensures { path_found b result ≡ first (passes_by n usable.now breakers.now owners.now) (paths n b) }
 {
-    let mut found = Found::Nothing;
+    let mut found = None;
     'sources: for r in 0..n {
         if candidate(row, usable, owners, b, r) {
-            for p in 0..2 {
-                let g = sources::source(row, r);
-                if permitted(n, breakers, owners, b, g, p) {
-                    let rising = rises(n, b, g, p);
-                    found = Found::Path { source: g, rising };
+            let g = sources::source(row, r);
+            let high = high_rises(n, b, g);
+            'paths: for rising in [high, !high] {
+                if permitted(n, breakers, owners, b, g, rising) {
+                    found = Some(Path { source: g, rising });
                     break 'sources;
                 }
             }

@@ -1,2 +1,3 @@
 -- The laws of what is kept from bus to bus.
 pub mod Progress
+pub mod Kept

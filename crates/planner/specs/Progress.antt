@@ -1,5 +1,6 @@
 -- What is kept from bus to bus while they are served, and the laws that serving a bus keeps it.
 -- Buses, generators and breakers are indices from 0; an owner is a generator's number, from 1, or 0.
+use Rattle.std.specs.Prelude.{Option as Answer, Some, None}
 use Rattle.std.specs.Prelude.{◌≡◌, Bool, ◌||◌, ◌⊎◌, ltb, eqb, set, replicate}
 use Rattle.std.proofs.Math.Path.{refl, sym}
 use Rattle.std.proofs.Common.{◌∙◌, ap, inl, inr, arith, add-one, lt-ltb, le-ltb, eqb-true, eq-eqb}
@@ -38,8 +39,7 @@ use Rattle.theory.specs.Proofs.Paths.{
 }
 use Rattle.theory.specs.Proofs.Choosing.{safe_chosen, chosen_ends}
 use Rattle.paths.specs.declared.Span.{Span}
-use Rattle.paths.specs.declared.Found.{Found}
-use Rattle.paths.specs.declared.Found.TheVariants as found
+use Rattle.paths.specs.declared.Path.{Path as Found}
 use Rattle.sources.specs.Sources.{may_feed}
 use Rattle.walks.specs.Arrays.{at, set_all, set_all_places, both}
 use Rattle.walks.specs.Walk.{outward, outward_path, closed_by, reach, reach_at, reach_connected}
@@ -252,7 +252,7 @@ module _ (n : ℕ) (H : PartHealth) (b : ℕ) (hb : b < n) where
         rw (chosen_next (some w) e, ← commanded l lines, ← owns l lines)
 
 -- by the arrays of a search and its answer f
-module _ (n : ℕ) (h : Health) (b : ℕ) (usable : List Bool) (s : Progress) (f : Found) (hb : b < n) (hn : n ≤ largest)
+module _ (n : ℕ) (h : Health) (b : ℕ) (usable : List Bool) (s : Progress) (f : Answer Found) (hb : b < n) (hn : n ≤ largest)
     (may : usable ≡ places (may_feed (health_of h))) (is : s ≡ served n (health_of h) b)
     (finds : path_found b f ≡ first (passes_by n usable h.bus_breakers s.owners) (paths n b)) where
   found_plan : plan n (health_of h) b ≡ path_found b f
@@ -270,23 +270,23 @@ module _ (n : ℕ) (h : Health) (b : ℕ) (usable : List Bool) (s : Progress) (f
       owners : ℕ → ℕ
       owners = at (served n (health_of h) b).owners
 
-  pub serve_dark : f ≡ found.Nothing → (Dark ≡ choice_of n (plan n (health_of h) b)) × (s ≡ served n (health_of h) (b + 1))
+  pub serve_dark : f ≡ None → (Dark ≡ choice_of n (plan n (health_of h) b)) × (s ≡ served n (health_of h) (b + 1))
   unfolding choice_of
   serve_dark e =
       let p = rw e at found_plan in
       (rw p, is ∙ served_dark n (health_of h) b hb p)
 
-  module _ (g : ℕ) (r : Bool) (e : f ≡ found.Path g r) where
-    pub serve_source : g < n
+  module _ (v : Found) (e : f ≡ Some v) where
+    pub serve_source : v.source < n
     unfolding plan
-    serve_source = (chosen_ends n (health_of h) (chosen n (health_of h) b) b (path_to b g r) hb (rw e at found_plan)).0.source
+    serve_source = (chosen_ends n (health_of h) (chosen n (health_of h) b) b (path_to b v.source v.rising) hb (rw e at found_plan)).0.source
 
-    pub serve_path : {t : Progress} {c : Choice} → t ≡ taken n (at h.bus_breakers) s (path_to b g r) → c ≡ choice_of n (some (path_to b g r))
+    pub serve_path : {t : Progress} {c : Choice} → t ≡ taken n (at h.bus_breakers) s (path_to b v.source v.rising) → c ≡ choice_of n (some (path_to b v.source v.rising))
         → (c ≡ choice_of n (plan n (health_of h) b)) × (t ≡ served n (health_of h) (b + 1))
     unfolding health_of
     serve_path d q =
         let p = rw e at found_plan in
-        (q ∙ sym (ap (choice_of n) p), rw (d, is) (served_path n (health_of h) b hb (path_to b g r) hn p))
+        (q ∙ sym (ap (choice_of n) p), rw (d, is) (served_path n (health_of h) b hb (path_to b v.source v.rising) hn p))
 
 -- ---- before the first bus and after the last
 

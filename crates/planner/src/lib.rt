@@ -11,6 +11,8 @@ use model::{BusChoice, Choice, Commands, Health};
 
 mod progress;
 
+use progress::Progress;
+
 // What a plan gives: each bus's choice and each part's command.
 #[derive(Clone, Copy)]
 pub struct Planned {
@@ -33,28 +35,18 @@ pub fn plan(n: u8, health: Health) -> Planned
         choice: Choice::Dark,
     };
     let mut choices = [dark; 20];
-    let mut owners = [0u8; 20];
-    let mut generators = [false; 20];
-    let mut closed = [false; 20];
+    let mut progress = Progress::new();
     for b in 0..size {
-        let choice = progress::serve(
-            size,
-            &table,
-            health,
-            &usable,
-            &mut owners,
-            &mut generators,
-            &mut closed,
-            b,
-        );
+        let choice = progress.serve(size, &table, health, &usable, b);
         choices[b] = BusChoice { choice };
     }
+    let generators = progress.generators;
     // A path has its generator and that generator's breaker.
     let generator_breakers = generators;
     let commands = Commands {
         generators,
         generator_breakers,
-        bus_breakers: closed,
+        bus_breakers: progress.closed,
     };
     Planned { choices, commands }
 }

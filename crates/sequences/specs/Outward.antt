@@ -26,7 +26,7 @@ use Rattle.model.specs.Laws.Choosing.{choices_at, Inside, AllInside}
 use Rattle.model.specs.Laws.Appended.{Appended, appended_none}
 use Rattle.model.specs.Laws.Sheet.{closing_paths}
 use Rattle.theory.specs.Proofs.Paths.{Ends, path_in_ring, path_to, tried_own, tried_at}
-use Rattle.walks.specs.Walk.{breaker_beside, bus_beside, outward, outward_path}
+use Rattle.walks.specs.Walk.{outward, outward_path}
 use Rattle.paths.specs.Search.{span_of}
 use Rattle.sequences.specs.Marks.{mark_all, fresh, Listed, fresh_append, room_front, room_behind, Holds, fresh_occurrences}
 
@@ -61,18 +61,6 @@ unfolding path_parts path_breakers part_code
 path_codes_lem n b g r hb hg =
     rw (outward_path n (path_to b g r) (record { source = hg; bus = hb }), zero-add)
     (ap (λ l. g ∷ (32 + g) ∷ l) (map-map part_code bus_breaker (path_bus_breakers n (path_to b g r))))
-
--- ---- the bus breakers of a path, at bus k with d of m steps done
-
-module _ (n : ℕ) (r : Bool) (k m d : ℕ) where
-  pub codes_next : d < m
-      → breaker_codes (outward n r k (m - d)) ≡ (64 + breaker_beside n r k) ∷ breaker_codes (outward n r (bus_beside n r k) (m - (d + 1)))
-  unfolding outward
-  codes_next h = let z : m - d ≡ suc (m - (d + 1)) = omega arith in rw z
-
-  pub codes_end : m ≤ d → breaker_codes (outward n r k (m - d)) ≡ []
-  unfolding outward
-  codes_end h = let z : m - d ≡ 0 = omega arith in rw z
 
 -- ---- the generator that a choice names
 

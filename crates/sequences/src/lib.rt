@@ -17,7 +17,8 @@ ghost use Rattle.sequences.specs.Marks.{fresh, Listed, Holds};
 ghost use Rattle.sequences.specs.Outward.{named_path, named_paths, breaker_codes, path_codes};
 
 use model::{BusChoice, Choice, Commands};
-use paths::Found;
+use paths::Path;
+use walks::Outward;
 
 // By part code, 0 to 83, the parts to be passed over: at first those that stand commanded on or closed, then those listed too.
 fn commanded(commands: Commands) -> [bool; 84]
@@ -64,14 +65,9 @@ fn list_breakers(
     ensures { Listed (breaker_codes (outward n rising g steps))
         passed.old codes.old end passed.new codes.new result }
 {
-    let mut k = g;
-    let mut done = 0;
     let mut behind = end;
-    while done < steps {
-        let i = walks::breaker_beside(n, k, rising);
+    for i in Outward::new(n, g, rising, steps) {
         behind = list_part(64 + i, passed, codes, behind);
-        k = walks::bus_beside(n, k, rising);
-        done += 1;
     }
     behind
 }
@@ -80,17 +76,17 @@ fn list_breakers(
 fn list_path(
     n: usize,
     b: usize,
-    g: usize,
-    rising: bool,
+    path: Path,
     passed: &mut [bool; 84],
     codes: &mut [u8; 60],
     end: usize,
 ) -> usize
-    requires ring { (b < n) × (g < n) × (n ≤ 20) }
-    requires room { end + length (fresh passed.old (map part_code (path_parts n (path_to b g rising)))) ≤ 60 }
-    ensures { Listed (map part_code (path_parts n (path_to b g rising)))
+    requires ring { (b < n) × (path.source < n) × (n ≤ 20) }
+    requires room { end + length (fresh passed.old (map part_code (path_parts n (path_to b path.source path.rising)))) ≤ 60 }
+    ensures { Listed (map part_code (path_parts n (path_to b path.source path.rising)))
         passed.old codes.old end passed.new codes.new result }
 {
+    let Path { source: g, rising } = path;
     let generator_end = list_part(g, passed, codes, end);
     let breaker_end = list_part(32 + g, passed, codes, generator_end);
     let span = paths::span_of(n, b, g, rising);
@@ -98,25 +94,25 @@ fn list_path(
 }
 
 // The path that a choice names.
-fn named(n: usize, b: usize, choice: Choice) -> Found
+fn named(n: usize, b: usize, choice: Choice) -> Option<Path>
     requires { (b < n) × (n ≤ 20) × Inside n choice }
     ensures { path_found b result ≡ named_path n b choice }
 {
     match choice {
-        Choice::Dark => Found::Nothing,
-        Choice::Own(number) => Found::Path {
+        Choice::Dark => None,
+        Choice::Own(number) => Some(Path {
             source: number as usize - 1,
             rising: true,
-        },
+        }),
         Choice::High(number) => {
             let g = number as usize - 1;
             let rising = paths::high_rises(n, b, g);
-            Found::Path { source: g, rising }
+            Some(Path { source: g, rising })
         }
         Choice::Low(number) => {
             let g = number as usize - 1;
             let rising = !paths::high_rises(n, b, g);
-            Found::Path { source: g, rising }
+            Some(Path { source: g, rising })
         }
     }
 }
@@ -136,8 +132,8 @@ fn list_bus(
         passed.old codes.old end passed.new codes.new result }
 {
     match named(n, b, choice) {
-        Found::Nothing => end,
-        Found::Path { source: g, rising } => list_path(n, b, g, rising, passed, codes, end),
+        None => end,
+        Some(path) => list_path(n, b, path, passed, codes, end),
     }
 }
 

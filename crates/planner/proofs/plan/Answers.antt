@@ -8,7 +8,7 @@ use Rattle.planner.specs.Progress.{served_none, choices_none, choices_more, choi
 use Rattle.planner.proofs.plan.Goals as goal
 
 pub loop-b-init : goal.loop-b-init
-loop-b-init c = (search auto, served_none _ _, choices_none _ _)
+loop-b-init c = (search auto, c.new-progress.ensures ∙ served_none _ _, choices_none _ _)
 
 pub serve-choice-requires-clause-table : goal.serve-choice-requires-clause-table
 serve-choice-requires-clause-table c = c.table-table.ensures

@@ -13,9 +13,9 @@ use Rattle.sequences.proofs.list_path.Goals.{Start}
 
 -- there is room for the codes of the whole path
 whole : (c : Start)
-    → (let rest = breaker_codes (outward c.args.n c.args.rising c.args.g (span_of c.args.n (path_to c.args.b c.args.g c.args.rising)).steps) in
-    c.args.end + length (fresh c.args.passed.now (c.args.g ∷ (32 + c.args.g) ∷ rest)) ≤ 60)
-whole c = rw (path_codes_lem c.args.n c.args.b c.args.g c.args.rising c.requires.ring.0 c.requires.ring.1) at c.requires.room
+    → (let rest = breaker_codes (outward c.args.n c.args.path.rising c.args.path.source (span_of c.args.n (path_to c.args.b c.args.path.source c.args.path.rising)).steps) in
+    c.args.end + length (fresh c.args.passed.now (c.args.path.source ∷ (32 + c.args.path.source) ∷ rest)) ≤ 60)
+whole c = rw (path_codes_lem c.args.n c.args.b c.args.path.source c.args.path.rising c.requires.ring.0 c.requires.ring.1) at c.requires.room
 
 pub list_part-generator_end-requires-clause-named : goal.list_part-generator_end-requires-clause-named
 list_part-generator_end-requires-clause-named c = omega (arith, c.requires)
@@ -34,5 +34,5 @@ list_breakers-requires-clause-room c = rw c.span_of-span.ensures (room_behind _ 
 
 pub returns : goal.returns
 returns c =
-    rw (path_codes_lem c.args.n c.args.b c.args.g c.args.rising c.requires.ring.0 c.requires.ring.1)
+    rw (path_codes_lem c.args.n c.args.b c.args.path.source c.args.path.rising c.requires.ring.0 c.requires.ring.1)
     (listed_more c.list_part-generator_end.ensures (listed_more c.list_part-breaker_end.ensures (rw c.span_of-span.ensures at c.list_breakers.ensures)))
