@@ -1,14 +1,13 @@
 -- The sheet of the sets that were found, and the whole answer.
-use Rattle.std.specs.Prelude.{◌≡◌, refl, Bool, true, false, cond, ℕ, ◌+◌, ◌-◌, ◌*◌, ◌/◌, ◌%◌, ◌≤◌, ◌<◌, eqb, length, take, set}
+use Rattle.std.specs.Prelude.{◌≡◌, refl, Bool, true, false, cond, ℕ, ◌+◌, ◌-◌, ◌*◌, ◌/◌, ◌%◌, ◌≤◌, ◌<◌, eqb, length, take, set, Ok}
 use Rattle.std.proofs.Common.{◌∙◌, arith, lt-ltb, le-ltb}
 use Rattle.std.proofs.Math.Path.{ap}
 use mathlib.Core.List.{List, ◌∷◌, flat_map}
 use Rattle.model.specs.declared.Part.{Part}
 use Rattle.model.specs.declared.Ring.{Ring}
 use Rattle.model.specs.declared.RingState.{RingState}
-use Rattle.model.specs.declared.Outcome.TheVariants.{Served}
 use Rattle.model.specs.declared.CutSetsAnswer.{CutSetsAnswer}
-use Rattle.model.specs.Values.{index, outcome_number}
+use Rattle.model.specs.Values.{index, refusal_of, outcome_number}
 use Rattle.model.specs.Sheet.{written}
 use Rattle.model.specs.Reports.{health_of}
 use Rattle.model.specs.Refusals.{first_met, too_short, bus_outside}
@@ -60,11 +59,11 @@ module _ (sets : List (List Part)) (l l' : List ℕ) (c : ℕ) (a : Appended (fl
       sheet_short h e = rw (lt-ltb (length buffer) (length (cut_sheet sets)) (omega (arith, cut_sheet_length sets, sets_count))) (e, refl)
 
       pub sheet_served : {after : List ℕ} → 2 + 3 * c ≤ length buffer → after ≡ written (headed c (take (3 * c) l')) buffer
-          → Replied buffer (record { outcome = Served; count = c }) after
+          → Replied buffer (record { outcome = Ok tt; count = c }) after
       unfolding sheet_reply served_cut_sets too_short
       sheet_served h e =
           rw (le-ltb (length buffer) (length (cut_sheet sets)) (omega (arith, cut_sheet_length sets, sets_count)))
-          (ap (λ n. record { outcome = Served; count = n }) sets_count, e ∙ ap (λ (bytes : List ℕ). written bytes buffer) sheet_laid)
+          (ap (λ n. record { outcome = Ok tt; count = n }) sets_count, e ∙ ap (λ (bytes : List ℕ). written bytes buffer) sheet_laid)
 
 -- ---- the answer
 
@@ -80,12 +79,12 @@ module _ (state : RingState) (bus : ℕ) (buffer : List ℕ) where
 
   -- 9 comes first
   pub bad : bad_record state ≡ true → Gives state bus buffer (refused_cut_sets 9 buffer).answer buffer
-  unfolding cut_sets_reply cut_sets_refusal first_met refused_cut_sets
+  unfolding cut_sets_reply cut_sets_refusal first_met refused_cut_sets refusal_of
   bad e = rw e (refl, (refl, refl))
 
   -- then 10
   pub outside : bad_record state ≡ false → bus_outside ring.n bus ≡ true → Gives state bus buffer (refused_cut_sets 10 buffer).answer buffer
-  unfolding cut_sets_reply cut_sets_refusal first_met refused_cut_sets
+  unfolding cut_sets_reply cut_sets_refusal first_met refused_cut_sets refusal_of
   outside e f = rw (e, f) (refl, (refl, refl))
 
   -- then 8
@@ -93,7 +92,7 @@ module _ (state : RingState) (bus : ℕ) (buffer : List ℕ) where
       → (r ≡ (sheet_reply (cut_sets ring.n (health_of ring.health) b) buffer).answer)
       × (after ≡ (sheet_reply (cut_sets ring.n (health_of ring.health) b) buffer).buffer)
       → Gives state bus buffer r after
-  unfolding cut_sets_reply cut_sets_refusal first_met refused_cut_sets served_cut_sets sheet_reply ring_cut_sets
+  unfolding cut_sets_reply cut_sets_refusal first_met refused_cut_sets refusal_of served_cut_sets sheet_reply ring_cut_sets
   answered b r after e f z w = rw (e, f) (go (too_short (length buffer) (cut_sheet sets)) (rw z at w))
     where
       sets : List (List Part)

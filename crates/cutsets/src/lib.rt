@@ -4,7 +4,7 @@
 
 ghost use Rattle.std.specs.Prelude.{◌≡◌, ℕ, ◌+◌, ◌*◌, ◌≤◌, ◌<◌, length, take};
 ghost use mathlib.Core.List.{List, flat_map};
-ghost use Rattle.model.specs.Values.{outcome_number};
+ghost use Rattle.model.specs.Values.{refusal_number, outcome_number};
 ghost use Rattle.model.specs.Reports.{health_of};
 ghost use Rattle.model.specs.Sheet.{written};
 ghost use Rattle.model.specs.CutSets.{set_bytes, cut_sets, cut_sets_refusal, refused_cut_sets, cut_sets_reply};
@@ -12,7 +12,7 @@ ghost use Rattle.model.specs.Laws.Appended.{Appended};
 ghost use Rattle.cutsets.specs.Search.{most, Searching, Stored};
 ghost use Rattle.cutsets.specs.Sheet.{headed, sheet_reply};
 
-use model::{CutSetsAnswer, Health, Outcome, RingState};
+use model::{CutSetsAnswer, Health, Refusal, RingState};
 use partsets::PartSet;
 
 // Room for all sets of at most three of sixty parts: there are 36,051.
@@ -84,11 +84,11 @@ fn write_sheet(bytes: &[u8], count: usize, buffer: &mut [u8])
 }
 
 // "Each has its number as the answer", and "any figure beside the record 0".
-fn refused(number: u8) -> CutSetsAnswer
-    ensures { (buffer : List ℕ) → result ≡ (refused_cut_sets number buffer).answer }
+fn refused(refusal: Refusal) -> CutSetsAnswer
+    ensures { (buffer : List ℕ) → result ≡ (refused_cut_sets (refusal_number refusal) buffer).answer }
 {
     CutSetsAnswer {
-        outcome: Outcome::Refused(number),
+        outcome: Err(refusal),
         count: 0,
     }
 }
@@ -103,11 +103,11 @@ fn listed(n: usize, health: Health, b: usize, buffer: &mut [u8]) -> CutSetsAnswe
     let mut found = [0u8; ROOM];
     let count = search_sizes(n, health, b, &mut found);
     if buffer.len() < 2 + 3 * count {
-        return refused(8);
+        return refused(Refusal::BufferShort);
     }
     write_sheet(&found, count, buffer);
     CutSetsAnswer {
-        outcome: Outcome::Served,
+        outcome: Ok(()),
         count: count as u16,
     }
 }
@@ -120,11 +120,11 @@ pub fn list(state: RingState, bus: u8, buffer: &mut [u8]) -> CutSetsAnswer
     ensures number { outcome_number result.outcome ≡ cut_sets_refusal state bus (length buffer.old) }
 {
     if records::bad_record(state) {
-        return refused(9);
+        return refused(Refusal::BadRecord);
     }
     let ring = state.ring;
     if components::bus_outside(ring.n, bus) {
-        return refused(10);
+        return refused(Refusal::BusOutside);
     }
     let n = ring.n as usize;
     let b = (bus - 1) as usize;

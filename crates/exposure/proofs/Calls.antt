@@ -1,21 +1,20 @@
 -- What a code's answer and the list of a bus's sets say, and the whole answer from them.
-use Rattle.std.specs.Prelude.{◌≡◌, true, false, not, ◌⊎◌, List, ℕ, ◌+◌, ◌*◌, ◌≤◌, T, length}
+use Rattle.std.specs.Prelude.{◌≡◌, true, false, not, ◌⊎◌, List, ℕ, ◌+◌, ◌*◌, ◌≤◌, T, length, Result, Ok, Err}
 use Rattle.std.proofs.Math.Path.{refl, ap}
 use Rattle.std.proofs.Common.{sym, ◌∙◌, inl, inr, arith, le-ltb}
 use Rattle.std.proofs.Math.Option.{Option, none, some}
 use Rattle.std.proofs.Math.ListN.{drop}
 use Rattle.std.specs.Float.Ieee.{is_nan}
 use Rattle.model.specs.declared.Part.{Part}
-use Rattle.model.specs.declared.PartAnswer.{PartAnswer}
-use Rattle.model.specs.declared.PartAnswer.TheVariants as part
+use Rattle.model.specs.declared.Refusal.{Refusal}
+use Rattle.model.specs.declared.Refusal.TheVariants.{BadRecord, BusOutside, RateOutside, Unrated}
 use Rattle.model.specs.declared.Rates.{Rates}
 use Rattle.model.specs.declared.RingState.{RingState}
 use Rattle.model.specs.declared.Exposure.{Exposure}
 use Rattle.model.specs.declared.ExposureAnswer.{ExposureAnswer}
-use Rattle.model.specs.declared.Outcome.TheVariants.{Served, Refused}
 use Rattle.model.specs.declared.CutSetsAnswer.{CutSetsAnswer}
 use Rattle.model.specs.Lists.{◌∈◌}
-use Rattle.model.specs.Values.{index, outcome_of, outcome_number}
+use Rattle.model.specs.Values.{index, refusal_of, outcome_of, outcome_number}
 use Rattle.model.specs.Plant.{largest}
 use Rattle.model.specs.Sheet.{written}
 use Rattle.model.specs.Reports.{part_named, health_of}
@@ -26,7 +25,8 @@ use Rattle.model.specs.CutSets.{cut_sheet, ring_cut_sets, cut_sets_refusal, serv
 use Rattle.model.specs.CutText.{sheet_room}
 use Rattle.model.specs.Exposure.{some_outside, exposure_refusal, exposure_answer}
 use Rattle.model.specs.Laws.Tests.{dec}
-use Rattle.model.specs.Laws.Refusals.{outcome_number_lem, good_size, served_refused}
+use Rattle.model.specs.Laws.Refusals.{good_size, served_refused}
+use Rattle.model.specs.Laws.Numbers.{exposure_number}
 use Rattle.model.specs.Laws.Bookings.{good_state}
 use Rattle.model.specs.Laws.CutSets.{cut_sheet_length, Few}
 use Rattle.theory.proofs.Theorems.CutSets.{listed}
@@ -37,37 +37,37 @@ use Rattle.exposure.proofs.Sets.{figures_are, unrated_are}
 
 -- ---- the answer to a code
 
-module _ (c : ℕ) {a : PartAnswer} (is : a ≡ part_answer (part_named largest c)) where
-  pub is_part : {p : Part} → a ≡ part.Named p → part_named largest c ≡ some p
+module _ (c : ℕ) {a : Result Part Refusal} (is : a ≡ part_answer (part_named largest c)) where
+  pub is_part : {p : Part} → a ≡ Ok p → part_named largest c ≡ some p
   unfolding part_answer
   is_part {p} e = go (part_named largest c) (sym e ∙ is)
     where
-      go : (o : Option Part) → part.Named p ≡ part_answer o → o ≡ some p
+      go : (o : Option Part) → Ok p ≡ part_answer o → o ≡ some p
       go none z = cc
       go (some q) z = let y : q ≡ p = cc in rw y
 
-  pub is_none_lem : {k : ℕ} → a ≡ part.Refused k → part_named largest c ≡ none
+  pub is_none_lem : {k : Refusal} → a ≡ Err k → part_named largest c ≡ none
   unfolding part_answer
   is_none_lem {k} e = go (part_named largest c) (sym e ∙ is)
     where
-      go : (o : Option Part) → part.Refused k ≡ part_answer o → o ≡ none
+      go : (o : Option Part) → Err k ≡ part_answer o → o ≡ none
       go none z = refl
       go (some q) z = cc
 
 -- ---- 15, then 16, then the figures
 
 module _ (n : ℕ) (r : Rates) (sheet : List ℕ) (k : ℕ) where
-  pub outside_15 : some_outside n r ≡ true → refused_exposure 15 ≡ sheet_answer n r sheet k
-  unfolding refused_exposure sheet_answer first_met outcome_of
+  pub outside_15 : some_outside n r ≡ true → refused_exposure RateOutside ≡ sheet_answer n r sheet k
+  unfolding refused_exposure sheet_answer first_met outcome_of refusal_of
   outside_15 e = rw e
 
-  pub unrated_16 : some_outside n r ≡ false → unrated_bytes r sheet (3 * k) ≡ true → refused_exposure 16 ≡ sheet_answer n r sheet k
-  unfolding refused_exposure sheet_answer first_met outcome_of
+  pub unrated_16 : some_outside n r ≡ false → unrated_bytes r sheet (3 * k) ≡ true → refused_exposure Unrated ≡ sheet_answer n r sheet k
+  unfolding refused_exposure sheet_answer first_met outcome_of refusal_of
   unrated_16 e f = rw (e, f)
 
   pub reckoned : {x : Exposure} → some_outside n r ≡ false → unrated_bytes r sheet (3 * k) ≡ false → x ≡ figures_of r sheet k
-      → record { outcome = Served; exposure = x } ≡ sheet_answer n r sheet k
-  unfolding sheet_answer first_met outcome_of
+      → record { outcome = Ok tt; exposure = x } ≡ sheet_answer n r sheet k
+  unfolding sheet_answer first_met outcome_of refusal_of
   reckoned e f g = rw (e, f, g)
 
 -- ---- the list
@@ -94,18 +94,18 @@ module _ (state : RingState) (bus : ℕ) (r : Rates) (buffer : List ℕ) (room :
   abbrev sets : List (List Part)
   sets = ring_cut_sets state.ring bus
 
-  abbrev Turned : ℕ → Type 0
-  Turned k = (answer.outcome ≡ Refused k) × (refused_exposure k ≡ exposure_answer state bus r)
+  abbrev Turned : Refusal → Type 0
+  Turned k = (answer.outcome ≡ Err k) × (refused_exposure k ≡ exposure_answer state bus r)
 
   -- refused by 9, refused by 10, or served
   abbrev Ways : Type 0
-  Ways = Turned 9 ⊎ (Turned 10 ⊎ ((answer.outcome ≡ Served) × ServedList state bus buffer answer after))
+  Ways = Turned BadRecord ⊎ (Turned BusOutside ⊎ ((answer.outcome ≡ Ok tt) × ServedList state bus buffer answer after))
 
   ways : Ways
-  unfolding cut_sets_reply cut_sets_refusal first_met refused_cut_sets served_cut_sets refused_exposure exposure_answer exposure_refusal outcome_of
+  unfolding cut_sets_reply cut_sets_refusal first_met refused_cut_sets served_cut_sets refused_exposure exposure_answer exposure_refusal outcome_of refusal_of
   ways = go (dec (bad_record state)) (dec (bus_outside state.ring.n bus))
     where
-      outcome : {k : ℕ} → (cut_sets_reply state bus buffer).answer.outcome ≡ Refused k → answer.outcome ≡ Refused k
+      outcome : {k : Refusal} → (cut_sets_reply state bus buffer).answer.outcome ≡ Err k → answer.outcome ≡ Err k
       outcome e = ap (λ (a : CutSetsAnswer). a.outcome) is ∙ e
 
       go : (bad_record state ≡ true) ⊎ (bad_record state ≡ false)
@@ -125,15 +125,15 @@ module _ (state : RingState) (bus : ℕ) (r : Rates) (buffer : List ℕ) (room :
             },
           ))
 
-  pub refused_is : {k : ℕ} → answer.outcome ≡ Refused k → refused_exposure k ≡ exposure_answer state bus r
+  pub refused_is : {k : Refusal} → answer.outcome ≡ Err k → refused_exposure k ≡ exposure_answer state bus r
   refused_is {k} e = go ways
     where
       go : Ways → refused_exposure k ≡ exposure_answer state bus r
-      go (inl t) = let z : k ≡ 9 = ap outcome_number (sym e ∙ t.0) in rw z t.1
-      go (inr (inl t)) = let z : k ≡ 10 = ap outcome_number (sym e ∙ t.0) in rw z t.1
+      go (inl t) = let q = sym e ∙ t.0 in let z : k ≡ BadRecord = cc in rw z t.1
+      go (inr (inl t)) = let q = sym e ∙ t.0 in let z : k ≡ BusOutside = cc in rw z t.1
       go (inr (inr t)) = served_refused t.0 e
 
-  module _ (e : answer.outcome ≡ Served) where
+  module _ (e : answer.outcome ≡ Ok tt) where
     served : ServedList state bus buffer answer after
     served = go ways
       where
@@ -182,4 +182,4 @@ pub gives : (state : RingState) (bus : ℕ) (r : Rates) {a : ExposureAnswer} →
     × (T (not (is_nan a.exposure.sum)) × T (not (is_nan a.exposure.largest))))
 unfolding exposure_answer
 gives state bus r e =
-    (e, (ap (λ (x : ExposureAnswer). outcome_number x.outcome) e ∙ outcome_number_lem (exposure_refusal state bus r), rw e (answer_numbers state bus r)))
+    (e, (ap (λ (x : ExposureAnswer). outcome_number x.outcome) e ∙ exposure_number state bus r, rw e (answer_numbers state bus r)))

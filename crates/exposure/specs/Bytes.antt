@@ -1,5 +1,5 @@
 -- The sheet of minimal cut sets as the reckoning reads it, byte by byte, and what its code answers.
-use Rattle.std.specs.Prelude.{Bool, false, cond, ℕ, ◌+◌, ◌*◌, eqb, get_or, Float}
+use Rattle.std.specs.Prelude.{Bool, false, cond, ℕ, ◌+◌, ◌*◌, eqb, get_or, Float, Err}
 use mathlib.Core.List.{List, [], ◌∷◌, map, foldl}
 use Rattle.std.proofs.Math.Option.{Option, none, some}
 use Rattle.std.specs.Float.{binary64}
@@ -8,7 +8,7 @@ use Rattle.model.specs.declared.Part.{Part}
 use Rattle.model.specs.declared.Rates.{Rates}
 use Rattle.model.specs.declared.Exposure.{Exposure}
 use Rattle.model.specs.declared.ExposureAnswer.{ExposureAnswer}
-use Rattle.model.specs.declared.Outcome.TheVariants.{Refused}
+use Rattle.model.specs.declared.Refusal.{Refusal}
 use Rattle.model.specs.Lists.{below, any_of}
 use Rattle.model.specs.Values.{outcome_of}
 use Rattle.model.specs.Plant.{largest}
@@ -54,9 +54,9 @@ figures_of r sheet k = foldl with_product no_exposure (map (λ i. product_at r s
 unfoldable pub unrated_bytes : Rates → List ℕ → ℕ → Bool
 unrated_bytes r sheet k = any_of (λ i. unrated_code r (get_or sheet (2 + i) 0)) (below k)
 
--- refused by a number
-unfoldable pub refused_exposure : ℕ → ExposureAnswer
-refused_exposure k = record { outcome = Refused k; exposure = no_exposure }
+-- refused
+unfoldable pub refused_exposure : Refusal → ExposureAnswer
+refused_exposure r = record { outcome = Err r; exposure = no_exposure }
 
 -- what is answered of a sheet that has k sets, where neither 9 nor 10 is met
 unfoldable pub sheet_answer : ℕ → Rates → List ℕ → ℕ → ExposureAnswer

@@ -19,15 +19,15 @@ ghost use Rattle.exposure.specs.Bytes.{
   sheet_answer,
 };
 
-use model::{Exposure, ExposureAnswer, Outcome, PartAnswer, Rates, RingState};
+use model::{Exposure, ExposureAnswer, Rates, Refusal, RingState};
 
 // One factor more, where a byte of the sheet is a part's code: "with 255 for unused".
 fn times(rates: Rates, product: f64, code: u8) -> f64
     ensures { result ≡ times_code rates product code }
 {
     match codes::part_of(code, 20) {
-        PartAnswer::Named(part) => product * rates::chance_of(rates::rate_of(rates, part)),
-        PartAnswer::Refused(_) => product,
+        Ok(part) => product * rates::chance_of(rates::rate_of(rates, part)),
+        Err(_) => product,
     }
 }
 
@@ -88,8 +88,8 @@ fn unrated_code(rates: Rates, code: u8) -> bool
     ensures { result ≡ unrated_code rates code }
 {
     match codes::part_of(code, 20) {
-        PartAnswer::Named(part) => rates::is_unrated(rates::rate_of(rates, part)),
-        PartAnswer::Refused(_) => false,
+        Ok(part) => rates::is_unrated(rates::rate_of(rates, part)),
+        Err(_) => false,
     }
 }
 
@@ -107,11 +107,11 @@ fn unrated_listed(rates: Rates, sheet: &[u8], count: usize) -> bool
 }
 
 // "Each has its number as the answer", and "any figure beside the record 0".
-fn refused(number: u8) -> ExposureAnswer
-    ensures { result ≡ refused_exposure number }
+fn refused(refusal: Refusal) -> ExposureAnswer
+    ensures { result ≡ refused_exposure refusal }
 {
     ExposureAnswer {
-        outcome: Outcome::Refused(number),
+        outcome: Err(refusal),
         exposure: no_figures(),
     }
 }
@@ -122,13 +122,13 @@ fn answered(n: usize, rates: Rates, sheet: &[u8], count: usize) -> ExposureAnswe
     ensures { result ≡ sheet_answer n rates sheet.now count }
 {
     if rates::some_outside(n, rates) {
-        return refused(15);
+        return refused(Refusal::RateOutside);
     }
     if unrated_listed(rates, sheet, count) {
-        return refused(16);
+        return refused(Refusal::Unrated);
     }
     ExposureAnswer {
-        outcome: Outcome::Served,
+        outcome: Ok(()),
         exposure: reckon(rates, sheet, count),
     }
 }
@@ -142,9 +142,8 @@ pub fn of_bus(state: RingState, bus: u8, rates: Rates) -> ExposureAnswer
 {
     let mut sheet = [0u8; 108155];
     let list = cutsets::list(state, bus, &mut sheet);
-    let outcome = list.outcome;
-    match outcome {
-        Outcome::Served => answered(state.ring.n as usize, rates, &sheet, list.count as usize),
-        Outcome::Refused(number) => refused(number),
+    match list.outcome {
+        Ok(()) => answered(state.ring.n as usize, rates, &sheet, list.count as usize),
+        Err(refusal) => refused(refusal),
     }
 }

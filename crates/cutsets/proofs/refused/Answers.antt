@@ -1,8 +1,8 @@
 -- `cutsets::refused` meets its contract.
-use mathlib.Core.Path.{refl}
 use Rattle.model.specs.CutSets.{refused_cut_sets}
+use Rattle.model.specs.Laws.Refusals.{refusal_named}
 use Rattle.cutsets.proofs.refused.Goals as goal
 
 pub returns : goal.returns
 unfolding refused_cut_sets
-returns c buffer = refl
+returns c buffer = rw (refusal_named c.args.refusal)

@@ -14,17 +14,17 @@ room = length-replicate {A = ℕ} 108155 0
 pub answered-requires : goal.answered-requires
 answered-requires c =
     let t = served_room _ _ c.args.rates _ room c.list-list.ensures.answer c.list-list.ensures.bytes
-    c.in-Served.is in
+    c.in-Ok.is in
     (t.0, t.1, omega (arith, t.2, c.list-list.auto))
 
-pub returns-in-Served : goal.returns-in-Served
-returns-in-Served c =
+pub returns-in-Ok : goal.returns-in-Ok
+returns-in-Ok c =
     let e = c.list-list.ensures in
-    let w = gives _ _ _ (c.answered.ensures ∙ served_is _ _ _ _ room e.answer e.bytes c.in-Served.is) in
+    let w = gives _ _ _ (c.answered.ensures ∙ served_is _ _ _ _ room e.answer e.bytes c.in-Ok.is) in
     record { answer = w.0; number = w.1.0; figures = w.1.1 }
 
-pub returns-in-Refused : goal.returns-in-Refused
-returns-in-Refused c =
+pub returns-in-Err : goal.returns-in-Err
+returns-in-Err c =
     let e = c.list-list.ensures in
-    let w = gives _ _ _ (c.refused.ensures ∙ refused_is _ _ _ _ room e.answer e.bytes c.in-Refused.is) in
+    let w = gives _ _ _ (c.refused.ensures ∙ refused_is _ _ _ _ room e.answer e.bytes c.in-Err.is) in
     record { answer = w.0; number = w.1.0; figures = w.1.1 }

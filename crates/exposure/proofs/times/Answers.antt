@@ -7,19 +7,19 @@ use Rattle.model.specs.Laws.Reports.{code_named}
 use Rattle.exposure.specs.Bytes.{times_code}
 use Rattle.exposure.proofs.Calls.{is_part, is_none_lem}
 use Rattle.exposure.proofs.times.Goals as goal
-use Rattle.exposure.proofs.times.Goals.{In-Named}
+use Rattle.exposure.proofs.times.Goals.{In-Ok}
 
 -- the part that the code names
-named : (c : In-Named) → part_named largest c.args.code ≡ some c.in-Named.part
-named c = is_part _ c.part_of.ensures.answer c.in-Named.is
+named : (c : In-Ok) → part_named largest c.args.code ≡ some c.in-Ok.part
+named c = is_part _ c.part_of.ensures.answer c.in-Ok.is
 
 pub rate_of-requires : goal.rate_of-requires
-rate_of-requires c = (code_named largest _ _ (named (goal.at.rate_of-requires c).In-Named)).0
+rate_of-requires c = (code_named largest _ _ (named (goal.at.rate_of-requires c).In-Ok)).0
 
-pub returns-in-Named : goal.returns-in-Named
+pub returns-in-Ok : goal.returns-in-Ok
 unfolding times_code
-returns-in-Named c = rw (named (goal.at.returns-in-Named c).In-Named, c.chance_of.ensures, c.rate_of.ensures)
+returns-in-Ok c = rw (named (goal.at.returns-in-Ok c).In-Ok, c.chance_of.ensures, c.rate_of.ensures)
 
-pub returns-in-Refused : goal.returns-in-Refused
+pub returns-in-Err : goal.returns-in-Err
 unfolding times_code
-returns-in-Refused c = rw (is_none_lem _ c.part_of.ensures.answer c.in-Refused.is)
+returns-in-Err c = rw (is_none_lem _ c.part_of.ensures.answer c.in-Err.is)
