@@ -1,52 +1,38 @@
--- `standing::differ` meets its contract. The loop's invariant: the parts of the places passed have the same commands.
-use mathlib.Core.Path.{◌≡◌, sym}
-use mathlib.Core.Bool.{Bool, true, false}
-use Prim.Native.Nat.{ℕ}
-use native.Mathlib.Omega.{arith}
-use borrow.Author.Rules.{rules}
-use Rattle.model.specs.declared.Part.{Part}
-use Rattle.model.specs.Plant.{generator, generator_breaker, bus_breaker}
+-- `standing::differ` meets its contract, kind by kind.
+use Rattle.std.proofs.Common.{◌≡◌, ◌∙◌, rules, sym, inl, inr, not, ◌||◌}
+use Rattle.std.specs.Bool.{beq}
+use Rattle.std.specs.Cmp.Lexicographic.{pointwise}
 use Rattle.model.specs.Reports.{commands_of}
-use Rattle.model.specs.Laws.Parts.{ring_more, some_part, no_part}
-use Rattle.model.specs.Laws.Tests.{compared}
-use Rattle.standing.specs.Standing.{differs, any_differ}
+use Rattle.components.specs.Searches.{FirstTwo, some_of_two, none_of_two}
+use Rattle.standing.specs.Standing.{any_differ, differ_kinds}
 use Rattle.standing.proofs.differ.Goals as goal
-use Rattle.standing.proofs.differ.Goals.{At-loop-i}
+use Rattle.standing.proofs.differ.Goals.{Joined-ne, then-ne, else-ne}
 
--- whether the commands of the part at the loop's place differ
-abbrev differ-at : At-loop-i → (ℕ → Part) → Bool
-differ-at l part = differs (commands_of l.args.standing) (commands_of l.args.planned) (part l.loop-i.i)
+kinds : (c : Joined-ne) → any_differ (commands_of c.args.standing) (commands_of c.args.planned)
+    ≡ not (pointwise beq c.args.standing.generators c.args.planned.generators)
+    || (not (pointwise beq c.args.standing.generator_breakers c.args.planned.generator_breakers)
+    || not (pointwise beq c.args.standing.bus_breakers c.args.planned.bus_breakers))
+kinds c =
+    differ_kinds c.args.standing c.args.planned
+    (record { generators = search rules; generator_breakers_lem = search rules; bus_breakers_lem = search rules })
+    (record { generators = search rules; generator_breakers_lem = search rules; bus_breakers_lem = search rules })
 
-pub loop-i-init : goal.loop-i-init
-unfolding commands_of any_differ
-loop-i-init c = (search rules, λ p m. absurd (omega arith))
+-- the kinds compared before the last
+before : (c : Joined-ne)
+    → FirstTwo (not (pointwise beq c.args.standing.generators c.args.planned.generators))
+    (not (pointwise beq c.args.standing.generator_breakers c.args.planned.generator_breakers))
+    c.if-ne.value
+before c =
+    elim c.if-ne.branch [
+      | then-ne w ↦ inl (sym c.ne.ensures ∙ w.if-ne.true, w.value-is ∙ w.if-ne.true)
+      | else-ne w ↦ inr (sym c.ne.ensures ∙ w.if-ne.false, w.value-is ∙ w.ne-else-ne.ensures)
+    ]
 
-pub returns-then-standing-i : goal.returns-then-standing-i
-unfolding commands_of any_differ
-returns-then-standing-i c =
-    let e : differ-at (goal.at.returns-then-standing-i c).At-loop-i generator ≡ true = search compared in
-    sym (some_part _ _ (generator c.loop-i.i) (search rules) e)
+pub returns-then-ne-2 : goal.returns-then-ne-2
+returns-then-ne-2 c =
+    let j = (goal.at.returns-then-ne-2 c).Joined-ne in some_of_two _ _ _ (kinds j) (before j) c.if-ne-2.true
 
-pub returns-then-standing-i-2 : goal.returns-then-standing-i-2
-unfolding commands_of any_differ
-returns-then-standing-i-2 c =
-    let e : differ-at (goal.at.returns-then-standing-i-2 c).At-loop-i generator_breaker ≡ true = search compared in
-    sym (some_part _ _ (generator_breaker c.loop-i.i) (search rules) e)
-
-pub returns-then-standing-i-3 : goal.returns-then-standing-i-3
-unfolding commands_of any_differ
-returns-then-standing-i-3 c =
-    let e : differ-at (goal.at.returns-then-standing-i-3 c).At-loop-i bus_breaker ≡ true = search compared in
-    sym (some_part _ _ (bus_breaker c.loop-i.i) (search rules) e)
-
-pub loop-i-preserved : goal.loop-i-preserved
-unfolding commands_of any_differ
-loop-i-preserved c =
-    let same : differ-at (goal.at.loop-i-preserved c).At-loop-i generator ≡ false = search compared in
-    let same-breakers : differ-at (goal.at.loop-i-preserved c).At-loop-i generator_breaker ≡ false = search compared in
-    let same-bus-breakers : differ-at (goal.at.loop-i-preserved c).At-loop-i bus_breaker ≡ false = search compared in
-    (search rules, ring_more _ _ c.loop-i.invariant.1 same same-breakers same-bus-breakers)
-
-pub returns : goal.returns
-unfolding commands_of any_differ
-returns c = sym (no_part _ _ (λ p m. c.loop-i.invariant.1 p (m.0, omega arith)))
+pub returns-else-ne-2 : goal.returns-else-ne-2
+returns-else-ne-2 c =
+    let j = (goal.at.returns-else-ne-2 c).Joined-ne in
+    none_of_two _ _ _ (kinds j) (before j) c.if-ne-2.false c.ne-else-ne-2.ensures
