@@ -94,11 +94,16 @@ differs C D p = not (beq (C p) (D p))
 unfoldable pub any_differ : PartCommands → PartCommands → Bool
 any_differ C D = any_of (differs C D) (parts largest)
 
--- .. kind by kind, as arrays are compared
+not_all : (a b c : Bool) → not (a && (b && c)) ≡ not a || (not b || not c)
+not_all true true c = refl
+not_all true false c = refl
+not_all false b c = refl
+
+-- .. kind by kind, as `!=` compares them
 pub differ_kinds : (a b : Commands) → SizedCommands a → SizedCommands b
     → any_differ (commands_of a) (commands_of b)
-    ≡ not (pointwise beq a.generators b.generators)
-    || (not (pointwise beq a.generator_breakers b.generator_breakers) || not (pointwise beq a.bus_breakers b.bus_breakers))
+    ≡ not (pointwise beq a.generators b.generators
+    && (pointwise beq a.generator_breakers b.generator_breakers && pointwise beq a.bus_breakers b.bus_breakers))
 unfolding any_differ commands_of
 differ_kinds a b s t =
     any_kinds _ largest
@@ -107,3 +112,4 @@ differ_kinds a b s t =
       any_differs beq false a.generator_breakers b.generator_breakers largest s.generator_breakers_lem t.generator_breakers_lem,
       any_differs beq false a.bus_breakers b.bus_breakers largest s.bus_breakers_lem t.bus_breakers_lem,
     )
+    (sym (not_all (pointwise beq a.generators b.generators) (pointwise beq a.generator_breakers b.generator_breakers) (pointwise beq a.bus_breakers b.bus_breakers)))

@@ -51,7 +51,5 @@ pub fn locked_above(n: usize, health: Health) -> bool
 pub fn differ(standing: Commands, planned: Commands) -> bool
     ensures { result ≡ any_differ (commands_of standing) (commands_of planned) }
 {
-    standing.generators != planned.generators
-        || standing.generator_breakers != planned.generator_breakers
-        || standing.bus_breakers != planned.bus_breakers
+    standing != planned
 }
