@@ -1,9 +1,8 @@
 // "each bus with its source and way". An `append_` function stores its text from `at` on and answers the place behind it.
 #![tactic(auto)]
 
-ghost use Rattle.std.specs.Prelude.{◌≡◌, map, ◌+◌, ◌*◌, ◌<◌, ◌≤◌, length};
+ghost use Rattle.std.specs.Prelude.{map, ◌+◌, ◌*◌, ◌<◌, ◌≤◌, length};
 ghost use Rattle.model.specs.Lists.{below};
-ghost use Rattle.model.specs.Values.{choice_source, choice_letter};
 ghost use Rattle.model.specs.Text.{choice_text, bus_text};
 ghost use Rattle.model.specs.Laws.Appended.{Appended};
 ghost use Rattle.model.specs.Laws.Spaced.{behind_spaces};
@@ -12,42 +11,22 @@ ghost use Rattle.buses.specs.Buses.{bus_behind_space, Named, AllNamed};
 use model::{BusChoice, Choice};
 use numbers::{append_digit, append_marked};
 
-// The generator that a choice names.
-fn source(choice: Choice) -> u8
-    ensures { result ≡ choice_source choice }
-{
-    match choice {
-        Choice::Dark => 0,
-        Choice::Own(g) => g,
-        Choice::High(g) => g,
-        Choice::Low(g) => g,
-    }
-}
-
-// A choice's letter.
-fn letter(choice: Choice) -> u8
-    ensures { result ≡ choice_letter choice }
-{
-    match choice {
-        Choice::Dark => b'-',
-        Choice::Own(_) => b'o',
-        Choice::High(_) => b'h',
-        Choice::Low(_) => b'l',
-    }
-}
-
 // "its source and way (`o` own, `h` high, `l` low; `-` alone when dark ..)"
 fn append_choice(choice: Choice, out: &mut [u8], at: usize) -> usize
     requires { Named choice × (at + 4 ≤ length out.old) }
     ensures { Appended (choice_text choice) out.old at out.new result }
 {
-    let mark = letter(choice);
-    if mark == b'-' {
-        out[at] = mark;
-        return at + 1;
-    }
+    let (source, letter) = match choice {
+        Choice::Dark => {
+            out[at] = b'-';
+            return at + 1;
+        }
+        Choice::Own(g) => (g, b'o'),
+        Choice::High(g) => (g, b'h'),
+        Choice::Low(g) => (g, b'l'),
+    };
     out[at] = b'G';
-    append_marked(source(choice), mark, out, at + 1)
+    append_marked(source, letter, out, at + 1)
 }
 
 // A bus behind a space, as ` B3=G2h`. Each branch goes on by itself: in the first the choice's place is a fixed distance from `at`,
@@ -72,10 +51,8 @@ pub fn append_buses(n: usize, choices: [BusChoice; 20], out: &mut [u8], at: usiz
     ensures { Appended (behind_spaces (map (bus_text choices) (below n))) out.old at out.new result }
 {
     let mut end = at;
-    for b in 0..n {
-        let bus = choices[b];
-        let choice = bus.choice;
-        end = append_bus(b as u8 + 1, choice, out, end);
+    for (b, bus) in choices[..n].iter().enumerate() {
+        end = append_bus(b as u8 + 1, bus.choice, out, end);
     }
     end
 }

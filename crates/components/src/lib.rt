@@ -9,6 +9,7 @@ ghost use Rattle.model.specs.Refusals.{size_outside, bus_outside};
 use model::FIT;
 
 // "BBn joins Bn and B1": the bus after bus k. An inner call: its callers know n and k.
+#[tactic(auto, unfolding(model::specs::Plant::next))]
 pub fn next(n: usize, k: usize) -> usize
     requires bus { k < n }
     requires size { n ≤ 20 }
@@ -27,6 +28,7 @@ pub fn fit_generator(generator: u8, locked: bool) -> bool
 }
 
 // 2: "n below 3 or above 20"
+#[tactic(auto, unfolding(model::specs::Refusals::size_outside))]
 pub fn size_outside(n: u8) -> bool
     ensures { result ≡ size_outside n }
 {
@@ -34,6 +36,7 @@ pub fn size_outside(n: u8) -> bool
 }
 
 // 10: "a bus number outside 1 to n"
+#[tactic(auto, unfolding(model::specs::Refusals::bus_outside))]
 pub fn bus_outside(n: u8, bus: u8) -> bool
     ensures { result ≡ bus_outside n bus }
 {

@@ -43,6 +43,7 @@ fn arc_closed(n: usize, health: Health, commands: Commands, a: usize, b: usize) 
 }
 
 // "Two buses are joined when closed bus breakers lead from one to the other; a bus is joined to itself."
+#[tactic(auto, unfolding(model::specs::Plant::connected))]
 fn connected(n: usize, health: Health, commands: Commands, a: usize, b: usize) -> bool
     requires from { a < n }
     requires to { b < n }
@@ -53,6 +54,7 @@ fn connected(n: usize, health: Health, commands: Commands, a: usize, b: usize) -
 }
 
 // "it feeds every bus joined to its own while its generator breaker is closed": whether generator g feeds bus b.
+#[tactic(auto, unfolding(model::specs::Plant::feeds, model::specs::Reports::health_of, model::specs::Reports::commands_of))]
 pub fn feeds_bus(n: usize, health: Health, commands: Commands, b: usize, g: usize) -> bool
     requires bus { b < n }
     requires generator { g < n }

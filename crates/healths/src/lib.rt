@@ -1,10 +1,12 @@
 // The test that healths are those of their parts' kinds. Places of arrays are indices from 0, the paper's numbers less 1.
 #![tactic(auto)]
 
-ghost use Rattle.std.specs.Prelude.{◌≡◌, ◌||◌, min};
-ghost use Rattle.model.specs.Plant.{fit, stuck_off, stuck_open, stuck_closed, parts, largest};
+ghost use Rattle.std.specs.Prelude.{◌≡◌, ◌||◌};
+ghost use Rattle.model.specs.Plant.{fit, stuck_off, stuck_open, stuck_closed, parts};
+ghost use Rattle.model.specs.Lists.{any_of};
 ghost use Rattle.model.specs.Reports.{health_of};
 ghost use Rattle.model.specs.Refusals.{health_outside};
+ghost use Rattle.healths.specs.Kinds.{no_generator, no_breaker};
 
 use model::{FIT, Health, STUCK_CLOSED, STUCK_OFF, STUCK_OPEN};
 
@@ -22,27 +24,26 @@ fn breaker_health(health: u8) -> bool
     health == FIT || (health == STUCK_OPEN || health == STUCK_CLOSED)
 }
 
-// How many of n places the arrays have: there is none beyond the largest ring's.
-fn held(n: usize) -> usize
-    ensures { result ≡ min n largest }
+// Whether a generator's health is of another kind.
+fn any_generator_outside(healths: &[u8]) -> bool
+    ensures { result ≡ any_of no_generator healths.now }
 {
-    if n < 20 { n } else { 20 }
+    healths.iter().any(|health| !generator_health(*health))
+}
+
+// Whether a breaker's is.
+fn any_breaker_outside(healths: &[u8]) -> bool
+    ensures { result ≡ any_of no_breaker healths.now }
+{
+    healths.iter().any(|health| !breaker_health(*health))
 }
 
 // 9: "a health is not one of its part's kind", among the parts up to n; beyond the arrays all are fit.
 pub fn health_outside(n: usize, health: Health) -> bool
     ensures { result ≡ health_outside (health_of health) (parts n) }
 {
-    for i in 0..held(n) {
-        if !generator_health(health.generators[i]) {
-            return true;
-        }
-        if !breaker_health(health.generator_breakers[i]) {
-            return true;
-        }
-        if !breaker_health(health.bus_breakers[i]) {
-            return true;
-        }
-    }
-    false
+    let held = n.min(20);
+    any_generator_outside(&health.generators[..held])
+        || any_breaker_outside(&health.generator_breakers[..held])
+        || any_breaker_outside(&health.bus_breakers[..held])
 }

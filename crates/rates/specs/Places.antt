@@ -1,16 +1,16 @@
--- The rate that an array holds at a place, and 15 over the places passed.
-use Rattle.std.specs.Prelude.{◌≡◌, Bool, true, false, List, ℕ, zero, suc, ◌-◌, ◌≤◌, ◌<◌, length, get_or}
-use Rattle.std.proofs.Common.{sym, ◌∙◌, ap, arith}
+-- The rate that an array holds at a place, and 15 over the places.
+use Rattle.std.specs.Prelude.{◌≡◌, Bool, List, ℕ, zero, suc, ◌-◌, ◌≤◌, ◌<◌, length, get_or, take, ◌||◌}
+use Rattle.std.proofs.Common.{sym, ◌∙◌, arith}
 use Rattle.std.proofs.Math.Numerals.{unary_clauses}
-use Rattle.model.specs.declared.Part.{Part}
 use Rattle.model.specs.declared.Rate.{Rate}
 use Rattle.model.specs.declared.PartRate.{PartRate}
 use Rattle.model.specs.declared.Rates.{Rates}
-use Rattle.model.specs.Plant.{largest, generator, generator_breaker, bus_breaker, InRing}
+use Rattle.model.specs.Plant.{largest}
 use Rattle.model.specs.Reports.{at_number}
+use Rattle.model.specs.Lists.{any_of}
 use Rattle.model.specs.Exposure.{unrated, rate_of, rate_outside, some_outside}
 use Rattle.model.specs.Laws.Lists.{map_within}
-use Rattle.model.specs.Laws.Parts.{some_part, no_part}
+use Rattle.components.specs.Searches.{any_kinds, any_first}
 
 -- each array has a place for every part
 pub record Sized (r : Rates) : Type 0 where
@@ -29,32 +29,19 @@ pub held_number : (l : List PartRate) (k : ℕ) (d : PartRate) → 0 < k → k �
 held_number l zero d p h = absurd (omega arith)
 held_number l (suc i) d p h = simp unary_clauses (held l i d h)
 
--- the test of 15 at a place of each array is that of its part
-module _ (r : Rates) (s : Sized r) (i : ℕ) (d : PartRate) (t : Bool) (h : i < largest) where
-  test : (l : List PartRate) → length l ≡ largest → t ≡ rate_outside (get_or l i d).rate → rate_outside (get_or l i unrated).rate ≡ t
-  test l z e = ap rate_outside (sym (held l i d (omega arith))) ∙ sym e
+-- 15 of some part's rate
+abbrev pub any_outside : List PartRate → Bool
+any_outside = any_of (λ p. rate_outside p.rate)
 
-  pub generator_test : t ≡ rate_outside (get_or r.generators i d).rate → rate_outside (rate_of r (generator i)) ≡ t
-  unfolding rate_of
-  generator_test e = test r.generators s.generators e
-
-  pub generator_breaker_test : t ≡ rate_outside (get_or r.generator_breakers i d).rate → rate_outside (rate_of r (generator_breaker i)) ≡ t
-  unfolding rate_of
-  generator_breaker_test e = test r.generator_breakers s.generator_breakers_lem e
-
-  pub bus_breaker_test : t ≡ rate_outside (get_or r.bus_breakers i d).rate → rate_outside (rate_of r (bus_breaker i)) ≡ t
-  unfolding rate_of
-  bus_breaker_test e = test r.bus_breakers s.bus_breakers_lem e
-
--- p has a rate that 15 does not refuse
-abbrev pub Inside : Rates → Part → Type 0
-Inside r p = rate_outside (rate_of r p) ≡ false
-
-module _ (r : Rates) (n : ℕ) where
-  pub some_outside_lem : (p : Part) → InRing n p → rate_outside (rate_of r p) ≡ true → some_outside n r ≡ true
-  unfolding some_outside
-  some_outside_lem p m e = some_part (λ q. rate_outside (rate_of r q)) n p m e
-
-  pub none_outside : ((p : Part) → InRing n p → Inside r p) → some_outside n r ≡ false
-  unfolding some_outside
-  none_outside h = no_part (λ q. rate_outside (rate_of r q)) n h
+-- .. among the ring's parts, kind by kind
+pub outside_kinds : (r : Rates) → Sized r → (n : ℕ) → n ≤ largest
+    → some_outside n r
+    ≡ any_outside (take n r.generators) || (any_outside (take n r.generator_breakers) || any_outside (take n r.bus_breakers))
+unfolding some_outside rate_of
+outside_kinds r s n h =
+    any_kinds _ n
+    ∙ rw (
+      any_first (λ p. rate_outside p.rate) r.generators unrated n (omega (arith, s.generators)),
+      any_first (λ p. rate_outside p.rate) r.generator_breakers unrated n (omega (arith, s.generator_breakers_lem)),
+      any_first (λ p. rate_outside p.rate) r.bus_breakers unrated n (omega (arith, s.bus_breakers_lem)),
+    )

@@ -7,6 +7,7 @@ ghost use Rattle.std.specs.Float.Ieee.{lt, le};
 ghost use Rattle.std.specs.Float.Ieee.Scale.{finite};
 ghost use Rattle.model.specs.Plant.{largest, InRing};
 ghost use Rattle.model.specs.Exposure.{float0, float1, rate_of, chance_of, rate_outside, some_outside, is_unrated};
+ghost use Rattle.rates.specs.Places.{any_outside};
 
 use model::{Part, PartRate, Rate, Rates};
 
@@ -35,14 +36,11 @@ pub fn chance_of(rate: Rate) -> f64
 }
 
 // Whether a part is unrated.
+#[tactic(auto, unfolding(model::specs::Exposure::is_unrated))]
 pub fn is_unrated(rate: Rate) -> bool
     ensures { result ≡ is_unrated rate }
 {
-    match rate {
-        Rate::Chance(_) => false,
-        Rate::MeanHours(_) => false,
-        Rate::Unrated => true,
-    }
+    matches!(rate, Rate::Unrated)
 }
 
 // 15: "a chance not from 0 to 1". No comparison holds of a NaN, so one is refused.
@@ -54,6 +52,7 @@ fn chance_outside(chance: f64) -> bool
 }
 
 // 15: "hours not finite or below 1". 1.0 / 0.0 is infinity, and no comparison holds of a NaN, so that both are refused.
+#[tactic(auto, using(crate::specs::Tests::hours_first, crate::specs::Tests::hours_second))]
 fn hours_outside(hours: f64) -> bool
     ensures { result ≡ not (finite hours) || lt hours float1 }
 {
@@ -61,15 +60,22 @@ fn hours_outside(hours: f64) -> bool
 }
 
 // 15 of a part's rate.
+#[tactic(auto, unfolding(model::specs::Exposure::rate_outside))]
 fn rate_outside(part: PartRate) -> bool
     ensures { result ≡ rate_outside part.rate }
 {
-    let rate = part.rate;
-    match rate {
+    match part.rate {
         Rate::Chance(chance) => chance_outside(chance),
         Rate::MeanHours(hours) => hours_outside(hours),
         Rate::Unrated => false,
     }
+}
+
+// 15 of some part's.
+fn any_outside(parts: &[PartRate]) -> bool
+    ensures { result ≡ any_outside parts.now }
+{
+    parts.iter().any(|part| rate_outside(*part))
 }
 
 // 15 "among the ring's parts", in a listed set or not.
@@ -77,16 +83,7 @@ pub fn some_outside(n: usize, rates: Rates) -> bool
     requires { n ≤ largest }
     ensures { result ≡ some_outside n rates }
 {
-    for i in 0..n {
-        if rate_outside(rates.generators[i]) {
-            return true;
-        }
-        if rate_outside(rates.generator_breakers[i]) {
-            return true;
-        }
-        if rate_outside(rates.bus_breakers[i]) {
-            return true;
-        }
-    }
-    false
+    any_outside(&rates.generators[..n])
+        || any_outside(&rates.generator_breakers[..n])
+        || any_outside(&rates.bus_breakers[..n])
 }

@@ -15,8 +15,8 @@ pub fn check(n: u8, scan: Scan) -> Result<(), Refusal>
     ensures number { outcome_number result ≡ first_refusal n (scan_reports scan) }
 {
     let count = scan.count as usize;
-    for i in 0..count {
-        reports::check_report(n, scan.reports[i])?;
+    for report in &scan.reports[..count] {
+        reports::check_report(n, *report)?;
     }
     Ok(())
 }
@@ -29,9 +29,8 @@ pub fn told(ring: Ring, scan: Scan) -> Ring
 {
     let end = scan.count as usize;
     let mut next = ring;
-    for i in 0..end {
-        let report = scan.reports[i];
-        next = rings::told(next, report);
+    for report in &scan.reports[..end] {
+        next = rings::told(next, *report);
     }
     next
 }

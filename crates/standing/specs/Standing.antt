@@ -1,19 +1,25 @@
 -- The standing commands of a ring: whether a part above n is active or locked, and whether two sets of commands differ.
-use Rattle.std.specs.Prelude.{◌≡◌, Bool, not, ◌&&◌, ◌||◌, ◌⊎◌, ◌≢◌, ℕ, suc, ◌+◌, ◌≤◌, ◌<◌}
+use Rattle.std.specs.Prelude.{◌≡◌, Bool, List, [], ◌∷◌, not, ◌&&◌, ◌||◌, ◌⊎◌, ◌≢◌, ℕ, zero, suc, length, get_or, drop}
 use Rattle.std.proofs.Math.Path.{refl}
 use Rattle.std.proofs.Math.Bool.{true, false}
 use Rattle.std.specs.Bool.{beq}
-use Rattle.std.proofs.Common.{inl, inr, arith}
+use Rattle.std.specs.List.{zip}
+use Rattle.std.specs.Cmp.Lexicographic.{pointwise}
+use Rattle.std.proofs.Common.{◌∙◌, sym, ap, inl, inr, arith}
+use Rattle.std.proofs.lemmas.Slice.Zip.{get_or-zip, length-zip}
 use Rattle.std.proofs.Math.Dec.{ltb}
-use borrow.Author.Tests.{lt-ltb, ltb-true, eq-eqb, ne_eqb}
+use borrow.Author.Tests.{eq-eqb, ne_eqb}
 use Rattle.model.specs.declared.Part.{Part}
-use Rattle.model.specs.Lists.{any_of}
-use Rattle.model.specs.Values.{number}
-use Rattle.model.specs.Plant.{PartHealth, PartCommands, largest, parts, fit, InRing}
+use Rattle.model.specs.declared.Health.{Health}
+use Rattle.model.specs.declared.Commands.{Commands}
+use Rattle.model.specs.Lists.{below, any_of}
+use Rattle.model.specs.Reports.{health_of, commands_of}
+use Rattle.components.specs.Searches.{any_kinds, any_rest, rest, rest_all, any_differs}
+use Rattle.model.specs.Plant.{PartHealth, PartCommands, largest, parts, fit}
 use Rattle.model.specs.Refusals.{active_above, locked_above}
-use Rattle.model.specs.Laws.Tests.{dec, dec_eq}
-use Rattle.model.specs.Laws.Lists.{below_in, below_lt, any_in, any_false}
-use Rattle.model.specs.Laws.Parts.{some_part, no_part}
+use Rattle.model.specs.Laws.Tests.{dec}
+use Rattle.model.specs.Laws.Lists.{below_lt, any_ext}
+use Rattle.model.specs.Laws.Parts.{Sized}
 
 -- "not fit or not ordered off or open"
 abbrev pub active : PartHealth → PartCommands → Part → Bool
@@ -30,41 +36,55 @@ module _ (h : ℕ) (c : Bool) where
   pub fit_active : h ≡ 0 → c ≡ not (fit h) || c
   fit_active e = rw (eq-eqb h 0 e)
 
-module _ (n : ℕ) (H : PartHealth) (C : PartCommands) where
-  pub some_active : (p : Part) → InRing largest p → n < number p → active H C p ≡ true → active_above n H C ≡ true
-  unfolding active_above
-  some_active p m l e = some_part (λ q. ltb n (number q) && active H C q) largest p m (rw (lt-ltb n (number p) l) e)
+-- the arrays of commands are full
+pub record SizedCommands (c : Commands) : Type 0 where
+  pub generators : length c.generators ≡ largest
+  pub generator_breakers_lem : length c.generator_breakers ≡ largest
+  pub bus_breakers_lem : length c.bus_breakers ≡ largest
 
-  pub none_active : ((p : Part) → InRing largest p → n < number p → active H C p ≡ false) → active_above n H C ≡ false
-  unfolding active_above
-  none_active h = no_part (λ q. ltb n (number q) && active H C q) largest (λ p m. go p m (ltb n (number p)) refl)
-    where
-      go : (p : Part) → InRing largest p → (t : Bool) → ltb n (number p) ≡ t → t && active H C p ≡ false
-      go p m true e = h p m (ltb-true n (number p) e)
-      go p m false e = refl
+-- .. of a part of a kind, by the healths and the commands of its parts
+unfoldable pub any_active : List ℕ → List Bool → Bool
+any_active hs cs = any_of (λ p. not (fit p.0) || p.1) (zip hs cs)
+
+-- places side by side, from an index on
+zip_none : {A B : Type 0} (xs : List A) → zip xs (let ys : List B = [] in ys) ≡ []
+zip_none [] = refl
+zip_none (x ∷ xs) = refl
+
+zip_rest : {A B : Type 0} (n : ℕ) (xs : List A) (ys : List B) → drop n (zip xs ys) ≡ zip (drop n xs) (drop n ys)
+zip_rest zero xs ys = refl
+zip_rest (suc n) [] ys = refl
+zip_rest (suc n) (x ∷ xs) [] = sym (zip_none (drop n xs))
+zip_rest (suc n) (x ∷ xs) (y ∷ ys) = zip_rest n xs ys
+
+module _ (n : ℕ) (h : Health) (s : Sized h) (c : Commands) (t : SizedCommands c) where
+  kind : (hs : List ℕ) (cs : List Bool) → length hs ≡ largest → length cs ≡ largest
+      → any_of (λ i. ltb n (suc i) && (not (fit (get_or hs i 0)) || get_or cs i false)) (below largest) ≡ any_active (rest n hs) (rest n cs)
+  unfolding any_active
+  kind hs cs e f =
+      any_ext _ _ (below largest)
+      (λ i m. let b = below_lt largest i m in rw (get_or-zip hs cs i (0, false) (omega arith) (omega arith)))
+      ∙ (any_rest (λ p. not (fit p.0) || p.1) (zip hs cs) (0, false) n largest (omega (arith, length-zip hs cs))
+      ∙ ap (any_of (λ p. not (fit p.0) || p.1)) (rest_all n (zip hs cs) ∙ (zip_rest n hs cs ∙ rw (rest_all n hs, rest_all n cs))))
+
+  -- a part above n, kind by kind
+  pub active_kinds : active_above n (health_of h) (commands_of c)
+      ≡ any_active (rest n h.generators) (rest n c.generators)
+      || (any_active (rest n h.generator_breakers) (rest n c.generator_breakers)
+      || any_active (rest n h.bus_breakers) (rest n c.bus_breakers))
+  unfolding active_above health_of commands_of
+  active_kinds =
+      any_kinds _ largest
+      ∙ rw (
+        kind h.generators c.generators s.generators t.generators,
+        kind h.generator_breakers c.generator_breakers s.generator_breakers_lem t.generator_breakers_lem,
+        kind h.bus_breakers c.bus_breakers s.bus_breakers_lem t.bus_breakers_lem,
+      )
 
 -- "A part above n must be unlocked" (Note 7): places are indices from 0, those above n are from n on
-module _ (n : ℕ) (H : PartHealth) where
-  pub some_locked : (g : ℕ) → g < largest → n ≤ g → H.locked g ≡ true → locked_above n H ≡ true
-  unfolding locked_above
-  some_locked g m l e = any_in (λ i. ltb n (suc i) && H.locked i) (below_in largest g m) (rw (lt-ltb n (suc g) (omega arith)) e)
-
-  pub none_locked : ((g : ℕ) → g < largest → n ≤ g → H.locked g ≡ false) → locked_above n H ≡ false
-  unfolding locked_above
-  none_locked h = any_false (λ i. ltb n (suc i) && H.locked i) _ (λ g m. go g (below_lt largest g m) (ltb n (suc g)) refl)
-    where
-      go : (g : ℕ) → g < largest → (t : Bool) → ltb n (suc g) ≡ t → t && H.locked g ≡ false
-      go g m true e = h g m (omega (arith, ltb-true n (suc g) e))
-      go g m false e = refl
-
-  -- one place more
-  pub unlocked_more : (i : ℕ) → ((g : ℕ) → g < i → n ≤ g → H.locked g ≡ false) → H.locked i ≡ false
-      → (g : ℕ) → g < i + 1 → n ≤ g → H.locked g ≡ false
-  unlocked_more i h e g l m = go (dec_eq g i)
-    where
-      go : (g ≡ i) ⊎ (g ≢ i) → H.locked g ≡ false
-      go (inl f) = rw f e
-      go (inr f) = h g (omega arith) m
+pub locked_rest : (n : ℕ) (h : Health) → Sized h → locked_above n (health_of h) ≡ any_of (λ l. l) (rest n h.locked)
+unfolding locked_above health_of
+locked_rest n h s = any_rest (λ l. l) h.locked false n largest s.locked
 
 -- a part has another command in one than in the other
 abbrev pub differs : PartCommands → PartCommands → Part → Bool
@@ -73,3 +93,23 @@ differs C D p = not (beq (C p) (D p))
 -- .. and some part has
 unfoldable pub any_differ : PartCommands → PartCommands → Bool
 any_differ C D = any_of (differs C D) (parts largest)
+
+not_all : (a b c : Bool) → not (a && (b && c)) ≡ not a || (not b || not c)
+not_all true true c = refl
+not_all true false c = refl
+not_all false b c = refl
+
+-- .. kind by kind, as `!=` compares them
+pub differ_kinds : (a b : Commands) → SizedCommands a → SizedCommands b
+    → any_differ (commands_of a) (commands_of b)
+    ≡ not (pointwise beq a.generators b.generators
+    && (pointwise beq a.generator_breakers b.generator_breakers && pointwise beq a.bus_breakers b.bus_breakers))
+unfolding any_differ commands_of
+differ_kinds a b s t =
+    any_kinds _ largest
+    ∙ rw (
+      any_differs beq false a.generators b.generators largest s.generators t.generators,
+      any_differs beq false a.generator_breakers b.generator_breakers largest s.generator_breakers_lem t.generator_breakers_lem,
+      any_differs beq false a.bus_breakers b.bus_breakers largest s.bus_breakers_lem t.bus_breakers_lem,
+    )
+    (sym (not_all (pointwise beq a.generators b.generators) (pointwise beq a.generator_breakers b.generator_breakers) (pointwise beq a.bus_breakers b.bus_breakers)))

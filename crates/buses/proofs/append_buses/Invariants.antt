@@ -1,7 +1,7 @@
 -- `append_buses`: after b turns the first b buses are stored.
 use mathlib.Core.Path.{◌≡◌}
 use mathlib.Core.List.{map}
-use Prim.Native.Nat.{◌-◌, ◌≤◌}
+use Prim.Native.Nat.{◌≤◌}
 use lib.ListN.{length}
 use Rattle.model.specs.Lists.{below}
 use Rattle.model.specs.Text.{bus_text}
@@ -11,7 +11,4 @@ use Rattle.buses.proofs.append_buses.Given as goal
 
 abbrev pub invariant-loop-b : goal.invariant-loop-b
 invariant-loop-b l =
-    Appended (behind_spaces (map (bus_text l.choices) (below l.b))) l.initial.out l.at l.out l.end × (length l.out ≡ length l.initial.out) × (l.b ≤ l.n)
-
-abbrev pub decreases-loop-b : goal.decreases-loop-b
-decreases-loop-b l = l.n - l.b
+    Appended (behind_spaces (map (bus_text l.fn.choices) (below l.b))) l.initial.out l.at l.out l.end × (length l.out ≡ length l.initial.out) × (l.b ≤ l.n)

@@ -1,22 +1,15 @@
--- `figures::other_figures` meets its contract. The loop's invariant: the first g generators have the watts made anew.
-use mathlib.Core.Path.{sym}
-use native.Mathlib.Omega.{arith}
-use Rattle.model.specs.Laws.Tests.{facts}
-use Rattle.figures.specs.Comparing.{same_more, some_other, dark_decides}
+-- `figures::other_figures` meets its contract: one of the two comparisons tells them apart.
+use Rattle.std.proofs.Common.{◌≡◌, ◌∙◌, sym, rules, not, ◌||◌, eqb}
+use Rattle.model.specs.Bookings.{other_figures}
+use Rattle.figures.specs.Comparing.{compared_whole}
 use Rattle.figures.proofs.other_figures.Goals as goal
+use Rattle.figures.proofs.other_figures.Goals.{After-ne}
 
-pub loop-g-init : goal.loop-g-init
-loop-g-init c = (omega arith, λ r h. absurd (omega arith))
+both : (c : After-ne) → other_figures c.args.choices c.args.load ≡ c.ne.result || not (eqb c.args.load.dark_watts c.with_figures-theirs.result.dark_watts)
+both c = rw c.ne.ensures (compared_whole c.args.choices c.args.load c.with_figures-theirs.result c.with_figures-theirs.ensures (search rules))
 
-pub returns-then-load-g : goal.returns-then-load-g
-returns-then-load-g c =
-    sym (some_other _ c.args.load _ c.with_figures-theirs.ensures c.loop-g.g (omega arith) (λ e. omega (arith, facts)))
+pub returns-then-ne : goal.returns-then-ne
+returns-then-ne c = c.if-ne.true ∙ sym (both (goal.at.returns-then-ne c).After-ne ∙ rw c.if-ne.true)
 
-pub loop-g-preserved : goal.loop-g-preserved
-loop-g-preserved c =
-    (omega arith, same_more c.args.load c.with_figures-theirs.result c.loop-g.g c.loop-g.invariant.1 (omega (arith, facts)))
-
-pub returns : goal.returns
-returns c =
-    dark_decides _ c.args.load _ c.with_figures-theirs.ensures (λ r h. c.loop-g.invariant.1 r (omega arith)) _
-    (λ e f. omega (arith, facts)) (λ e f. omega (arith, facts))
+pub returns-else-ne : goal.returns-else-ne
+returns-else-ne c = sym (both (goal.at.returns-else-ne c).After-ne ∙ rw c.if-ne.false)

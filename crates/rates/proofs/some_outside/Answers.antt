@@ -1,50 +1,36 @@
--- `rates::some_outside` meets its contract. The loop's invariant: 15 refuses no part of the places passed.
-use mathlib.Core.Path.{sym, ◌∙◌}
-use native.Mathlib.Omega.{arith}
-use borrow.Author.Rules.{rules}
-use Rattle.model.specs.Plant.{generator, generator_breaker, bus_breaker}
-use Rattle.model.specs.Laws.Parts.{ring_more}
-use Rattle.rates.specs.Places.{Sized, generator_test, generator_breaker_test, bus_breaker_test, some_outside_lem, none_outside}
+-- `rates::some_outside` meets its contract, kind by kind.
+use Rattle.std.proofs.Common.{◌≡◌, ◌∙◌, rules, sym, inl, inr, ◌||◌, take}
+use Rattle.model.specs.Exposure.{some_outside}
+use Rattle.components.specs.Searches.{FirstTwo, some_of_two, none_of_two}
+use Rattle.rates.specs.Places.{any_outside, outside_kinds}
 use Rattle.rates.proofs.some_outside.Goals as goal
-use Rattle.rates.proofs.some_outside.Goals.{Start}
+use Rattle.rates.proofs.some_outside.Goals.{Joined-any_outside, then-any_outside, else-any_outside}
 
--- the arrays' lengths
-sized : (c : Start) → Sized c.args.rates
-sized c = record {
-  generators = c.well_formed.1.0.1.1.0.1.0.1;
-  generator_breakers_lem = c.well_formed.1.0.1.1.1.0.1.0.1;
-  bus_breakers_lem = c.well_formed.1.0.1.1.1.1.0.1.0.1;
-}
+kinds : (c : Joined-any_outside) → some_outside c.args.n c.args.rates
+    ≡ any_outside (take c.args.n c.args.rates.generators)
+    || (any_outside (take c.args.n c.args.rates.generator_breakers)
+    || any_outside (take c.args.n c.args.rates.bus_breakers))
+kinds c =
+    outside_kinds c.args.rates
+    (record { generators = search rules; generator_breakers_lem = search rules; bus_breakers_lem = search rules })
+    c.args.n c.requires
 
-pub loop-i-init : goal.loop-i-init
-loop-i-init c = (search rules, λ p m. absurd (omega arith))
+-- the kinds tested before the last
+before : (c : Joined-any_outside)
+    → FirstTwo (any_outside (take c.args.n c.args.rates.generators))
+    (any_outside (take c.args.n c.args.rates.generator_breakers))
+    c.if-any_outside.value
+before c =
+    elim c.if-any_outside.branch [
+      | then-any_outside w ↦ inl (sym c.any_outside.ensures ∙ w.if-any_outside.true, w.value-is ∙ w.if-any_outside.true)
+      | else-any_outside w ↦ inr (sym c.any_outside.ensures ∙ w.if-any_outside.false, w.value-is ∙ w.any_outside-else-any_outside.ensures)
+    ]
 
--- 15 refuses a part of each kind
-pub returns-then-rate_outside : goal.returns-then-rate_outside
-returns-then-rate_outside c =
-    sym (some_outside_lem _ _ (generator _) (search rules)
-    (generator_test _ (sized (goal.at.returns-then-rate_outside c).Start) _ _ _ (search rules) c.rate_outside.ensures ∙ c.if-rate_outside.true))
+pub returns-then-any_outside-2 : goal.returns-then-any_outside-2
+returns-then-any_outside-2 c =
+    let j = (goal.at.returns-then-any_outside-2 c).Joined-any_outside in some_of_two _ _ _ (kinds j) (before j) c.if-any_outside-2.true
 
-pub returns-then-rate_outside-2 : goal.returns-then-rate_outside-2
-returns-then-rate_outside-2 c =
-    sym (some_outside_lem _ _ (generator_breaker _) (search rules)
-    (generator_breaker_test _ (sized (goal.at.returns-then-rate_outside-2 c).Start) _ _ _ (search rules) c.rate_outside-in-loop-i.ensures ∙ c.if-rate_outside-2.true))
-
-pub returns-then-rate_outside-3 : goal.returns-then-rate_outside-3
-returns-then-rate_outside-3 c =
-    sym (some_outside_lem _ _ (bus_breaker _) (search rules)
-    (bus_breaker_test _ (sized (goal.at.returns-then-rate_outside-3 c).Start) _ _ _ (search rules) c.rate_outside-in-loop-i-2.ensures ∙ c.if-rate_outside-3.true))
-
--- the three parts of one place more
-pub loop-i-preserved : goal.loop-i-preserved
-loop-i-preserved c = (
-  search rules,
-  ring_more _ _ c.loop-i.invariant.1
-      (generator_test _ (sized (goal.at.loop-i-preserved c).Start) _ _ _ (search rules) c.rate_outside.ensures ∙ c.if-rate_outside.false)
-      (generator_breaker_test _ (sized (goal.at.loop-i-preserved c).Start) _ _ _ (search rules) c.rate_outside-in-loop-i.ensures ∙ c.if-rate_outside-2.false)
-      (bus_breaker_test _ (sized (goal.at.loop-i-preserved c).Start) _ _ _ (search rules) c.rate_outside-in-loop-i-2.ensures ∙ c.if-rate_outside-3.false),
-)
-
--- every place is passed
-pub returns : goal.returns
-returns c = sym (none_outside _ _ (λ p m. c.loop-i.invariant.1 p (m.0, omega arith)))
+pub returns-else-any_outside-2 : goal.returns-else-any_outside-2
+returns-else-any_outside-2 c =
+    let j = (goal.at.returns-else-any_outside-2 c).Joined-any_outside in
+    none_of_two _ _ _ (kinds j) (before j) c.if-any_outside-2.false c.any_outside-else-any_outside-2.ensures

@@ -1,51 +1,38 @@
--- `standing::active_above` meets its contract. The loop's invariant: each part of the places passed above n is fit, and off or open.
-use mathlib.Core.Path.{◌≡◌, sym, ◌∙◌}
-use mathlib.Core.Bool.{Bool, true, false}
-use Prim.Native.Nat.{ℕ}
-use native.Mathlib.Omega.{arith}
-use borrow.Author.Rules.{rules}
-use Rattle.model.specs.declared.Part.{Part}
-use Rattle.model.specs.Plant.{generator, generator_breaker, bus_breaker}
+-- `standing::active_above` meets its contract, kind by kind.
+use Rattle.std.proofs.Common.{◌≡◌, ◌∙◌, rules, sym, inl, inr, ◌||◌}
+use Rattle.model.specs.Refusals.{active_above}
 use Rattle.model.specs.Reports.{health_of, commands_of}
-use Rattle.model.specs.Laws.Parts.{ring_more}
-use Rattle.standing.specs.Standing.{active, some_active, none_active}
+use Rattle.components.specs.Searches.{FirstTwo, some_of_two, none_of_two, rest}
+use Rattle.standing.specs.Standing.{any_active, active_kinds}
 use Rattle.standing.proofs.active_above.Goals as goal
-use Rattle.standing.proofs.active_above.Goals.{At-loop-i}
+use Rattle.standing.proofs.active_above.Goals.{Joined-any_active, then-any_active, else-any_active}
 
--- whether the part at the loop's place is not fit, or on or closed
-abbrev active-at : At-loop-i → (ℕ → Part) → Bool
-active-at l part = active (health_of l.args.health) (commands_of l.args.commands) (part l.loop-i.i)
+kinds : (c : Joined-any_active) → active_above c.args.n (health_of c.args.health) (commands_of c.args.commands)
+    ≡ any_active (rest c.args.n c.args.health.generators) (rest c.args.n c.args.commands.generators)
+    || (any_active (rest c.args.n c.args.health.generator_breakers) (rest c.args.n c.args.commands.generator_breakers)
+    || any_active (rest c.args.n c.args.health.bus_breakers) (rest c.args.n c.args.commands.bus_breakers))
+kinds c =
+    active_kinds c.args.n c.args.health
+    (record { generators = search rules; generator_breakers_lem = search rules; bus_breakers_lem = search rules; locked = search rules })
+    c.args.commands
+    (record { generators = search rules; generator_breakers_lem = search rules; bus_breakers_lem = search rules })
 
-pub loop-i-init : goal.loop-i-init
-unfolding health_of commands_of
-loop-i-init c = (search rules, search rules, λ p m l. absurd (omega arith))
+-- the kinds tested before the last
+before : (c : Joined-any_active)
+    → FirstTwo (any_active (rest c.args.n c.args.health.generators) (rest c.args.n c.args.commands.generators))
+    (any_active (rest c.args.n c.args.health.generator_breakers) (rest c.args.n c.args.commands.generator_breakers))
+    c.if-any_active.value
+before c =
+    elim c.if-any_active.branch [
+      | then-any_active w ↦ inl (sym c.any_active.ensures ∙ w.if-any_active.true, w.value-is ∙ w.if-any_active.true)
+      | else-any_active w ↦ inr (sym c.any_active.ensures ∙ w.if-any_active.false, w.value-is ∙ w.any_active-else-any_active.ensures)
+    ]
 
-pub returns-then-is_active : goal.returns-then-is_active
-unfolding health_of commands_of
-returns-then-is_active c =
-    let e : active-at (goal.at.returns-then-is_active c).At-loop-i generator ≡ true = sym c.is_active.ensures ∙ c.if-is_active.true in
-    sym (some_active _ _ _ (generator c.loop-i.i) (search rules) (search rules) e)
+pub returns-then-any_active-2 : goal.returns-then-any_active-2
+returns-then-any_active-2 c =
+    let j = (goal.at.returns-then-any_active-2 c).Joined-any_active in some_of_two _ _ _ (kinds j) (before j) c.if-any_active-2.true
 
-pub returns-then-is_active-2 : goal.returns-then-is_active-2
-unfolding health_of commands_of
-returns-then-is_active-2 c =
-    let e : active-at (goal.at.returns-then-is_active-2 c).At-loop-i generator_breaker ≡ true = sym c.is_active-in-loop-i.ensures ∙ c.if-is_active-2.true in
-    sym (some_active _ _ _ (generator_breaker c.loop-i.i) (search rules) (search rules) e)
-
-pub returns-then-is_active-3 : goal.returns-then-is_active-3
-unfolding health_of commands_of
-returns-then-is_active-3 c =
-    let e : active-at (goal.at.returns-then-is_active-3 c).At-loop-i bus_breaker ≡ true = sym c.is_active-in-loop-i-2.ensures ∙ c.if-is_active-3.true in
-    sym (some_active _ _ _ (bus_breaker c.loop-i.i) (search rules) (search rules) e)
-
-pub loop-i-preserved : goal.loop-i-preserved
-unfolding health_of commands_of
-loop-i-preserved c =
-    let quiet : active-at (goal.at.loop-i-preserved c).At-loop-i generator ≡ false = sym c.is_active.ensures ∙ c.if-is_active.false in
-    let quiet-breaker : active-at (goal.at.loop-i-preserved c).At-loop-i generator_breaker ≡ false = sym c.is_active-in-loop-i.ensures ∙ c.if-is_active-2.false in
-    let quiet-bus-breaker : active-at (goal.at.loop-i-preserved c).At-loop-i bus_breaker ≡ false = sym c.is_active-in-loop-i-2.ensures ∙ c.if-is_active-3.false in
-    (search rules, search rules, ring_more _ _ c.loop-i.invariant.2 (λ p. quiet) (λ p. quiet-breaker) (λ p. quiet-bus-breaker))
-
-pub returns : goal.returns
-unfolding health_of commands_of
-returns c = sym (none_active _ _ _ (λ p m. c.loop-i.invariant.2 p (m.0, omega arith)))
+pub returns-else-any_active-2 : goal.returns-else-any_active-2
+returns-else-any_active-2 c =
+    let j = (goal.at.returns-else-any_active-2 c).Joined-any_active in
+    none_of_two _ _ _ (kinds j) (before j) c.if-any_active-2.false c.any_active-else-any_active-2.ensures
