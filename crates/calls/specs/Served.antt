@@ -1,5 +1,7 @@
 -- A served start or step, from its answer and its sheet's bytes to its line. A ring is one that was told its reports.
-use Rattle.std.specs.Prelude.{◌≡◌, false, ◌≢◌, List, ℕ, ◌+◌, ◌*◌, ◌≤◌, length, replicate}
+use Rattle.std.specs.Prelude.{◌≡◌, false, ◌≢◌, List, ℕ, ◌+◌, ◌*◌, ◌≤◌, length, replicate, Ok, Err}
+use Rattle.model.specs.declared.Refusal.{Refusal}
+use Rattle.model.specs.Laws.Refusals.{refusal_positive}
 use Rattle.std.proofs.Common.{sym, ◌∙◌, inl, inr, arith}
 use Rattle.std.proofs.Math.Path.{ap}
 use Rattle.std.proofs.lemmas.List.{length-replicate}
@@ -9,7 +11,6 @@ use Rattle.model.specs.declared.Report.{Report}
 use Rattle.model.specs.declared.Ring.{Ring}
 use Rattle.model.specs.declared.Scan.{Scan}
 use Rattle.model.specs.declared.RingAnswer.{RingAnswer}
-use Rattle.model.specs.declared.Outcome.TheVariants.{Served, Refused}
 use Rattle.model.specs.declared.Choice.{Choice}
 use Rattle.model.specs.Values.{outcome_number}
 use Rattle.model.specs.Plant.{PartHealth, smallest, largest}
@@ -170,7 +171,7 @@ module _ (ring : Ring) (good : bad_ring ring ≡ false) (s : Scan) (buffer : Lis
   next_good_scan : bad_ring a.ring ≡ false
   next_good_scan = rw answered (inner_scan_good ring good s buffer)
 
-  module _ (served : a.outcome ≡ Served) where
+  module _ (served : a.outcome ≡ Ok tt) where
     reply_served : scan_reply ring s buffer ≡ served_reply all_told buffer
     unfolding scan_reply
     reply_served = rw (full, number_is 0 (ap outcome_number served))
@@ -195,13 +196,15 @@ module _ (ring : Ring) (good : bad_ring ring ≡ false) (s : Scan) (buffer : Lis
         let z = number_is 0 (ap outcome_number served) in
         record { ring_is = rw z t.ring_is; good = next_good_scan; stored = rw z t.stored }
 
-  module _ (k : ℕ) (refused : a.outcome ≡ Refused k) where
+  module _ (refusal : Refusal) (refused : a.outcome ≡ Err refusal) where
+    abbrev k : ℕ
+    k = refusal_number refusal
+
     refusal_is : scan_refusal ring s sheet_room ≡ k
     refusal_is = number_is k (ap outcome_number refused)
 
     not_served : k ≢ 0
-    unfolding scan_reply served_reply served_answer
-    not_served e = served_refused {k = k} (ap (λ (x : RingAnswer). x.outcome) answered ∙ rw (full, refusal_is, e)) refused
+    not_served e = omega (arith, e, refusal_positive refusal)
 
     kept : a.ring ≡ ring
     unfolding scan_reply refused_reply refused_answer

@@ -7,7 +7,7 @@ ghost use Rattle.model.specs.Refusals.{first_met, report_conditions, bad_ring};
 ghost use Rattle.model.specs.Text.{line_room};
 ghost use Rattle.calls.specs.Lines.{Shown, Answered};
 
-use model::{Outcome, Report, Ring, Scan};
+use model::{Report, Ring, Scan};
 
 // A line in the front of a lent buffer: the ring behind it, and its length.
 #[derive(Clone, Copy)]
@@ -56,12 +56,12 @@ pub fn scan_text(ring: Ring, scan: Scan, i: usize, out: &mut [u8]) -> Line
     let choices = answer.choices;
     let ring = answer.ring;
     match outcome {
-        Outcome::Served => {
+        Ok(()) => {
             let length = lines::sheet_line(i, n, choices, &sheet, out);
             Line { ring, length }
         }
-        Outcome::Refused(number) => {
-            let length = heads::refused_text(number, out);
+        Err(refusal) => {
+            let length = heads::refused_text(refusal as u8, out);
             Line { ring, length }
         }
     }

@@ -1,5 +1,8 @@
 -- The text of a fault file's chances of a dark hour, bus by bus. Buses are indices from 0, but for a line's.
-use Rattle.std.specs.Prelude.{◌≡◌, length}
+use Rattle.std.specs.Prelude.{◌≡◌, length, Ok, Err}
+use Rattle.model.specs.declared.Refusal.{Refusal}
+use Rattle.model.specs.Values.{Outcome, refusal_number}
+use Rattle.model.specs.Laws.Numbers.{file_number}
 use Rattle.std.proofs.Common.{◌∙◌, add-one, arith, ne_eqb}
 use Rattle.std.proofs.Math.Path.{ap}
 use mathlib.Core.List.{List, map, map-append}
@@ -7,8 +10,6 @@ use Prim.Native.Nat.{ℕ, suc, ◌+◌, ◌≤◌}
 use Rattle.model.specs.declared.Load.{Load}
 use Rattle.model.specs.declared.Ring.{Ring}
 use Rattle.model.specs.declared.Rates.{Rates}
-use Rattle.model.specs.declared.Outcome.{Outcome}
-use Rattle.model.specs.declared.Outcome.TheVariants.{Served, Refused}
 use Rattle.model.specs.declared.ExposureAnswer.{ExposureAnswer}
 use Rattle.model.specs.Lists.{below}
 use Rattle.model.specs.Values.{outcome_of}
@@ -56,13 +57,13 @@ module _ (r : Rates) (ring : Ring) where
 -- the text of a file, by the outcome of its checks
 module _ (r : Rates) (f : List ℕ) {o : Outcome} (is : o ≡ outcome_of (file_refusal f)) where
   -- a ring of the file's size, which is no larger than the largest
-  pub served_size : (ring : Ring) → ring ≡ latest_ring f → o ≡ Served → (ring.n ≡ file_size f) × (ring.n ≤ largest)
+  pub served_size : (ring : Ring) → ring ≡ latest_ring f → o ≡ Ok tt → (ring.n ≡ file_size f) × (ring.n ≤ largest)
   served_size ring e s =
       let good = latest_good f (served_zero is s) in
       (rw e good.0, rw e (good_size (latest_ring f) good.1).1)
 
   -- what is stored where it is served
-  pub served_stored : (ring : Ring) {l l' : List ℕ} {end : ℕ} → ring ≡ latest_ring f → o ≡ Served
+  pub served_stored : (ring : Ring) {l l' : List ℕ} {end : ℕ} → ring ≡ latest_ring f → o ≡ Ok tt
       → Appended (exposure_lines r ring ring.n) l 0 l' end → end ≤ length l
       → (l' ≡ written (printed_exposures r f) l) × ((end ≡ length (printed_exposures r f)) × (end ≤ length l'))
   unfolding printed_exposures
@@ -74,11 +75,11 @@ module _ (r : Rates) (f : List ℕ) {o : Outcome} (is : o ≡ outcome_of (file_r
       (w.0, (w.1, omega (arith, room, appended_length a)))
 
   -- .. and where it is refused: j is the number that is printed
-  pub refused_stored : (j k : ℕ) (l : List ℕ) {l' : List ℕ} {end : ℕ} → j ≡ k → o ≡ Refused k → l' ≡ written (refused_text j) l
+  pub refused_stored : (j : ℕ) (k : Refusal) (l : List ℕ) {l' : List ℕ} {end : ℕ} → j ≡ refusal_number k → o ≡ Err k → l' ≡ written (refused_text j) l
       → end ≡ length (refused_text j)
       → (l' ≡ written (printed_exposures r f) l) × ((end ≡ length (printed_exposures r f)) × (end ≤ length l'))
   unfolding printed_exposures
   refused_stored j k l g s bytes sized =
-      let n = refused_number is k s in
+      let n = refused_number is (file_number f) k s in
       let t : refused_text j ≡ printed_exposures r f = rw (ne_eqb (file_refusal f) 0 n.1, n.0, g) in
       (rw t at bytes, (rw t at sized, stored_fits (record { bytes = bytes; sized = sized })))

@@ -7,7 +7,7 @@ ghost use Rattle.model.specs.Sheet.{written};
 ghost use Rattle.model.specs.ExposureText.{exposure_room, bus_exposure_line, exposure_lines, exposures_room, printed_exposures};
 ghost use Rattle.model.specs.Laws.Appended.{Appended};
 
-use model::{Outcome, Rates, Ring, RingState};
+use model::{Rates, Ring, RingState};
 
 // The line of a bus of a ring without bookings, stored from `at` on: the place behind it.
 fn append_bus(rates: Rates, ring: Ring, bus: u8, out: &mut [u8], at: usize) -> usize
@@ -43,9 +43,8 @@ pub fn text(rates: Rates, file: &[u8], out: &mut [u8]) -> usize
     ensures within { result ≤ length out.new }
 {
     let answer = latest::ring_after(file);
-    let outcome = answer.outcome;
-    match outcome {
-        Outcome::Served => append_buses(rates, answer.ring, out),
-        Outcome::Refused(number) => heads::refused_text(number, out),
+    match answer.outcome {
+        Ok(()) => append_buses(rates, answer.ring, out),
+        Err(refusal) => heads::refused_text(refusal as u8, out),
     }
 }

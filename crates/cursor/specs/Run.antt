@@ -1,5 +1,10 @@
 -- The run of a file that is served: its lines, its reports and its rings. Reports are counted from 0.
-use Rattle.std.specs.Prelude.{◌≡◌, Bool, true, false, cond, ◌⊎◌, ◌≢◌, eqb, ltb, length, get_or, take, drop}
+use Rattle.std.specs.Prelude.{◌≡◌, Bool, true, false, cond, ◌⊎◌, ◌≢◌, eqb, ltb, length, get_or, take, drop, Result, Ok, Err}
+use Rattle.std.specs.Prelude as std
+use Rattle.model.specs.declared.Refusal.{Refusal}
+use Rattle.model.specs.declared.FileHead.{FileHead}
+use Rattle.model.specs.Values.{refusal_number}
+use Rattle.model.specs.Laws.Refusals.{refusal_positive}
 use Rattle.std.proofs.Math.Path.{refl, sym, ap}
 use Rattle.std.proofs.Common.{◌∙◌, inl, inr, arith, length-append}
 use mathlib.Core.List.{List, [], ◌∷◌}
@@ -9,9 +14,6 @@ use Rattle.std.proofs.Math.ListN.{length-map}
 use borrow.Author.Tests.{lt-ltb, ne_eqb}
 use Rattle.model.specs.declared.Report.{Report}
 use Rattle.model.specs.declared.Ring.{Ring}
-use Rattle.model.specs.declared.ReportAnswer.{ReportAnswer}
-use Rattle.model.specs.declared.ReportAnswer.TheVariants.{Read}
-use Rattle.model.specs.declared.FileAnswer.TheVariants as file
 use Rattle.model.specs.declared.RunCursor.{RunCursor}
 use Rattle.model.specs.declared.RunPiece.{RunPiece}
 use Rattle.model.specs.Lists.{below}
@@ -47,8 +49,8 @@ use Rattle.cursor.specs.Passed.{Passed}
 -- ---- the reports of a file that is not refused are all read
 
 -- an answer is a report that no condition meets
-abbrev pub IsRead : ℕ → ReportAnswer → Type 0
-IsRead n a = (r : Report) × (a ≡ Read r) × (first_met (report_conditions n r) ≡ 0)
+abbrev pub IsRead : ℕ → Result (std.Option Report) Refusal → Type 0
+IsRead n a = (r : Report) × (a ≡ Ok (std.Some r)) × (first_met (report_conditions n r) ≡ 0)
 
 number_read : (n c v : ℕ) → report_refusal n c v ≡ 0 → IsRead n (report_answer n c v)
 unfolding report_refusal
@@ -56,7 +58,7 @@ number_read n c v e = go (read_or_refused n c v)
   where
     go : ReadOrRefused n (report_answer n c v) → IsRead n (report_answer n c v)
     go (inl t) = t
-    go (inr t) = absurd (t.2 (rw (report_refusal, t.1) at e))
+    go (inr t) = let z = rw (report_refusal, t.1) at e in absurd (omega (arith, z, refusal_positive t.0))
 
 -- the i-th report of two stretches whose reports are not refused
 all_read : (n : ℕ) (cs ws : List ℕ) → reports_refusal n cs ws ≡ 0 → (i : ℕ) → i < length cs → i < length ws
@@ -80,7 +82,7 @@ module _ (f : List ℕ) (served : file_refusal f ≡ 0) where
   -- ---- its rings
 
   -- the ring of the next line, told the next report
-  pub ring_next : (i : ℕ) (r : Report) → report_at (file_size f) (file_codes f) (file_words f) i ≡ Read r
+  pub ring_next : (i : ℕ) (r : Report) → report_at (file_size f) (file_codes f) (file_words f) i ≡ Ok (std.Some r)
       → run_ring f (suc i) ≡ told (with_plan (run_ring f i)) r
   unfolding run_ring told_answer
   ring_next i r e = rw e
@@ -98,7 +100,7 @@ module _ (f : List ℕ) (served : file_refusal f ≡ 0) where
           rw (ring_next i r is) (size, next_good (with_plan (run_ring f i)) good r (rw size checked))
 
   -- the answer to report i as the code asks for it: of the ring's size, and of the two stretches of a file that has m reports
-  module _ {i m : ℕ} {ring : Ring} {a : ReportAnswer} (few : i < file_count f) (count : m ≡ file_count f)
+  module _ {i m : ℕ} {ring : Ring} {a : Result (std.Option Report) Refusal} (few : i < file_count f) (count : m ≡ file_count f)
       (state : ring ≡ with_plan (run_ring f i))
       (answer : a ≡ report_at ring.n (take (3 + m - 3) (drop 3 f)) (take (length f - (3 + m)) (drop (3 + m) f)) i) where
     report_is : (a ≡ report_at (file_size f) (file_codes f) (file_words f) i) × (ring.n ≡ file_size f) × (bad_ring ring ≡ false)
@@ -110,16 +112,16 @@ module _ (f : List ℕ) (served : file_refusal f ≡ 0) where
         (answer ∙ rw (size, both.0, both.1), size, rw state good.1)
 
     -- it is read, and the next ring is told it
-    pub report_next : (r : Report) → a ≡ Read r
+    pub report_next : (r : Report) → a ≡ Ok (std.Some r)
         → (bad_ring ring ≡ false) × (first_met (report_conditions ring.n r) ≡ 0) × (run_ring f (i + 1) ≡ told ring r)
     report_next r e =
         let t = report_is in
         let (q, is, checked) = is_read i few in
-        let y : Read q ≡ Read r = sym is ∙ sym t.0 ∙ e in
+        let y : Ok (std.Some q) ≡ Ok (std.Some r) = sym is ∙ sym t.0 ∙ e in
         let z : q ≡ r = cc in
         (t.2, rw (t.1, ← z) checked, rw (add-one, ring_next i q is, state, z))
 
-    pub report_sure : {b : ReportAnswer} → a ≡ b → ((r : Report) → Read r ≢ b) → ⊥
+    pub report_sure : {b : Result (std.Option Report) Refusal} → a ≡ b → ((r : Report) → Ok (std.Some r) ≢ b) → ⊥
     report_sure e ne = let (q, is, checked) = is_read i few in ne q (sym is ∙ sym report_is.0 ∙ e)
 
   -- ---- its lines
@@ -187,24 +189,25 @@ refused_some k = omega arith
 
 module _ {f before after : List ℕ} {ring : Ring} {size : ℕ} {p : RunPiece} where
   -- at the first the refusal ..
-  pub passed_refused : (k : ℕ) → file_answer f ≡ file.Refused k → ring ≡ ring_at f 0 → Stored (refused_text k) before after size
+  pub passed_refused : (k : Refusal) → file_answer f ≡ Err k → ring ≡ ring_at f 0
+      → Stored (refused_text (refusal_number k)) before after size
       → p ≡ record { cursor = record { place = 1; ring = ring }; length = size; more = false } → Passed f 0 before after p
   unfolding cursor_at ring_at refused_lines
   passed_refused k a e s is =
       let t = answer_refused f k a in
-      let l : run_lines f ≡ refused_text k ∷ [] = rw t.1 (refused_line f t.0) in
-      rw is (record { cursor = rw e; stored = rw l s; some = omega (arith, s.sized, refused_some k); more = rw l })
+      let l : run_lines f ≡ refused_text (refusal_number k) ∷ [] = rw t.1 (refused_line f t.0) in
+      rw is (record { cursor = rw e; stored = rw l s; some = omega (arith, s.sized, refused_some (refusal_number k)); more = rw l })
 
   -- .. or the header
-  pub passed_header : (n m : ℕ) → file_answer f ≡ file.Served n m → ring ≡ ring_at f 0 → Stored (header n m) before after size
+  pub passed_header : (head : FileHead) → file_answer f ≡ Ok head → ring ≡ ring_at f 0 → Stored (header head.n head.m) before after size
       → p ≡ record { cursor = record { place = 1; ring = ring }; length = size; more = true } → Passed f 0 before after p
   unfolding cursor_at ring_at
-  passed_header n m a e s is =
-      let t = answer_served f n m a in
+  passed_header head a e s is =
+      let t = answer_served f head a in
       rw is (record {
         cursor = rw e;
         stored = rw (header_at f t.0, ← t.1, ← t.2) s;
-        some = omega (arith, s.sized, header_some n m);
+        some = omega (arith, s.sized, header_some head.n head.m);
         more = sym (lt-ltb 1 (length (run_lines f)) (omega (arith, lines_length f t.0)));
       })
 

@@ -9,7 +9,7 @@ ghost use Rattle.calls.specs.Lines.{Shown};
 ghost use Rattle.cursor.specs.Passed.{Passed};
 
 use calls::Line;
-use model::{FileAnswer, ReportAnswer, Ring, RunCursor, RunPiece};
+use model::{Ring, RunCursor, RunPiece};
 
 // The number m of the reports of a file that is served, by its length: 3 + 2m bytes, or none "without reports" (document 02, Note 9).
 fn report_count(file: &[u8]) -> usize
@@ -30,9 +30,8 @@ fn report_line(ring: Ring, file: &[u8], i: usize, out: &mut [u8]) -> Line
 {
     let m = report_count(file);
     match reports::report_at(ring.n, &file[3..3 + m], &file[3 + m..], i) {
-        ReportAnswer::Read(report) => calls::step_line(ring, report, i + 1, out),
-        ReportAnswer::Refused(_) => Line { ring, length: 0 },
-        ReportAnswer::Missing => Line { ring, length: 0 },
+        Ok(Some(report)) => calls::step_line(ring, report, i + 1, out),
+        Ok(None) | Err(_) => Line { ring, length: 0 },
     }
 }
 
@@ -54,12 +53,12 @@ fn first_line(ring: Ring, file: &[u8], out: &mut [u8]) -> RunPiece
     ensures { Passed file.now 0 out.old out.new result }
 {
     match files::check_file(file) {
-        FileAnswer::Refused(k) => {
-            let length = heads::refused_text(k, out);
+        Err(refusal) => {
+            let length = heads::refused_text(refusal as u8, out);
             piece_of(Line { ring, length }, 1, false)
         }
-        FileAnswer::Served(n, m) => {
-            let length = heads::header(n, m, out);
+        Ok(head) => {
+            let length = heads::header(head.n, head.m, out);
             piece_of(Line { ring, length }, 1, true)
         }
     }

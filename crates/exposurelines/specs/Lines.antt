@@ -1,10 +1,11 @@
 -- The line of a bus, as it is appended.
-use Rattle.std.specs.Prelude.{◌≡◌, List, ◌++◌, ℕ, ◌+◌, Float}
+use Rattle.std.specs.Prelude.{◌≡◌, List, ◌++◌, ℕ, ◌+◌, Float, Ok, Err}
 use Rattle.std.proofs.Common.{append_assoc, arith, length-append}
 use Prim.Native.Char.{code}
 use Rattle.std.specs.Float.{binary64}
 use Rattle.std.specs.Float.Ieee.{to_bits}
-use Rattle.model.specs.declared.Outcome.TheVariants.{Served, Refused}
+use Rattle.model.specs.declared.Refusal.{Refusal}
+use Rattle.model.specs.Values.{refusal_number}
 use Rattle.model.specs.declared.Exposure.{Exposure}
 use Rattle.model.specs.declared.ExposureAnswer.{ExposureAnswer}
 use Rattle.model.specs.Text.{ascii, decimal, refused_text}
@@ -38,11 +39,11 @@ unfolding refused_text
 refused_is k number e = rw e (simp append_assoc)
 
 -- what is answered, by the outcome
-pub served_text : (a : ExposureAnswer) → a.outcome ≡ Served → answered_text a.outcome a.exposure ≡ exposure_text a.exposure
+pub served_text : (a : ExposureAnswer) → a.outcome ≡ Ok tt → answered_text a.outcome a.exposure ≡ exposure_text a.exposure
 unfolding answered_text
 served_text a e = rw e
 
-pub refused_text_lem : (a : ExposureAnswer) (k : ℕ) → a.outcome ≡ Refused k → answered_text a.outcome a.exposure ≡ refused_text k
+pub refused_text_lem : (a : ExposureAnswer) (k : Refusal) → a.outcome ≡ Err k → answered_text a.outcome a.exposure ≡ refused_text (refusal_number k)
 unfolding answered_text
 refused_text_lem a k e = rw e
 

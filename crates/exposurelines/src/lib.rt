@@ -9,7 +9,7 @@ ghost use Rattle.model.specs.ExposureText.{hex_digit, hex_digits, exposure_text,
 ghost use Rattle.model.specs.Laws.Appended.{Appended};
 ghost use Rattle.exposurelines.specs.Lines.{spaced_bits};
 
-use model::{Exposure, ExposureAnswer, Outcome};
+use model::{Exposure, ExposureAnswer};
 use numbers::{append_large, append_marked, append_number};
 
 // A hexadecimal digit: `0` to `9`, then `a` to `f`.
@@ -78,11 +78,9 @@ fn append_answer(answer: ExposureAnswer, out: &mut [u8], at: usize) -> usize
     ensures text { Appended (answered_text answer.outcome answer.exposure) out.old at out.new result }
     ensures within { result ≤ at + 40 }
 {
-    let outcome = answer.outcome;
-    let figures = answer.exposure;
-    match outcome {
-        Outcome::Served => append_figures(figures, out, at),
-        Outcome::Refused(number) => append_refused(number, out, at),
+    match answer.outcome {
+        Ok(()) => append_figures(answer.exposure, out, at),
+        Err(refusal) => append_refused(refusal as u8, out, at),
     }
 }
 

@@ -1,5 +1,7 @@
 -- What a call of the list says, served or refused, and the text that is made of it.
-use Rattle.std.specs.Prelude.{◌≡◌, refl, true, false, ◌⊎◌, ◌≢◌, ℕ, ◌+◌, ◌*◌, ◌≤◌, ◌<◌, length, drop}
+use Rattle.std.specs.Prelude.{◌≡◌, refl, true, false, ◌⊎◌, ◌≢◌, ℕ, ◌+◌, ◌*◌, ◌≤◌, ◌<◌, length, drop, Ok, Err}
+use Rattle.model.specs.declared.Refusal.{Refusal}
+use Rattle.model.specs.Values.{refusal_of}
 use Rattle.std.proofs.Common.{◌∙◌, inl, inr, arith}
 use Rattle.std.proofs.Math.Path.{ap}
 use mathlib.Core.List.{List, []}
@@ -7,7 +9,6 @@ use borrow.Author.Tests.{eq-eqb, ne_eqb, ltb-false}
 use Rattle.model.specs.declared.Part.{Part}
 use Rattle.model.specs.declared.Load.{Load}
 use Rattle.model.specs.declared.Ring.{Ring}
-use Rattle.model.specs.declared.Outcome.TheVariants.{Served, Refused}
 use Rattle.model.specs.declared.CutSetsAnswer.{CutSetsAnswer}
 use Rattle.model.specs.Values.{index}
 use Rattle.model.specs.Plant.{largest}
@@ -69,11 +70,11 @@ module _ (ring : Ring) (bus : ℕ) (buffer : List ℕ) (room : length buffer ≡
   number : ℕ
   number = cut_sets_refusal (unloaded ring) bus (length buffer)
 
-  refused_answer : number ≢ 0 → answer.outcome ≡ Refused number
+  refused_answer : number ≢ 0 → answer.outcome ≡ Err (refusal_of number)
   unfolding cut_sets_reply refused_cut_sets number
   refused_answer e = ap (λ (a : CutSetsAnswer). a.outcome) is ∙ rw (ne_eqb (cut_sets_refusal (unloaded ring) bus (length buffer)) 0 e)
 
-  served_answer : number ≡ 0 → (answer.outcome ≡ Served) × (answer.count ≡ length sets) × (after ≡ written (cut_sheet sets) buffer)
+  served_answer : number ≡ 0 → (answer.outcome ≡ Ok tt) × (answer.count ≡ length sets) × (after ≡ written (cut_sheet sets) buffer)
   unfolding cut_sets_reply served_cut_sets number unloaded
   served_answer e = (
     ap (λ (a : CutSetsAnswer). a.outcome) is ∙ rw (eq-eqb (cut_sets_refusal (unloaded ring) bus (length buffer)) 0 e),
@@ -81,7 +82,7 @@ module _ (ring : Ring) (bus : ℕ) (buffer : List ℕ) (room : length buffer ≡
     left ∙ rw (eq-eqb (cut_sets_refusal (unloaded ring) bus (length buffer)) 0 e),
   )
 
-  not_refused : answer.outcome ≡ Served → number ≡ 0
+  not_refused : answer.outcome ≡ Ok tt → number ≡ 0
   not_refused e = go (dec_eq number 0)
     where
       go : (number ≡ 0) ⊎ (number ≢ 0) → number ≡ 0
@@ -89,7 +90,7 @@ module _ (ring : Ring) (bus : ℕ) (buffer : List ℕ) (room : length buffer ≡
       go (inr z) = served_refused e (refused_answer z)
 
   -- what the text asks for
-  pub served_room : answer.outcome ≡ Served
+  pub served_room : answer.outcome ≡ Ok tt
       → (bus < 100) × (answer.count < 100000) × (2 + 3 * answer.count ≤ length buffer) × (10 + 15 * answer.count ≤ text_room)
   unfolding number ring_cut_sets
   served_room e =
@@ -100,7 +101,7 @@ module _ (ring : Ring) (bus : ℕ) (buffer : List ℕ) (room : length buffer ≡
       (omega (arith, t.0), omega (arith, c, few), omega (arith, c, t.2), omega (arith, c, few))
 
   -- and what it gives
-  served_text : answer.outcome ≡ Served → text_of bus answer.count after ≡ bus_cut_text ring bus
+  served_text : answer.outcome ≡ Ok tt → text_of bus answer.count after ≡ bus_cut_text ring bus
   unfolding number bus_cut_text written ring_cut_sets
   served_text e =
       let z = not_refused e in
@@ -112,7 +113,7 @@ module _ (ring : Ring) (bus : ℕ) (buffer : List ℕ) (room : length buffer ≡
       (cut_text_lem ring.n small sets (λ S m. let c = (all.exactly S).0 m in (c.few, λ p k. (c.further p k).0))
       (drop (length (cut_sheet sets)) buffer) bus)
 
-  pub text_served : {out out' : List ℕ} {r : ℕ} → answer.outcome ≡ Served → text_room ≤ length out
+  pub text_served : {out out' : List ℕ} {r : ℕ} → answer.outcome ≡ Ok tt → text_room ≤ length out
       → Appended (text_of bus answer.count after) out 0 out' r
       → (out' ≡ written (bus_cut_text ring bus) out) × ((r ≡ length (bus_cut_text ring bus)) × (r ≤ length out'))
   text_served {out} {out'} {r} e large a =
@@ -122,7 +123,7 @@ module _ (ring : Ring) (bus : ℕ) (buffer : List ℕ) (room : length buffer ≡
       let w = appended_all (rw (served_text e) at a) (rw (served_text e) at fits) in
       (w.0, (w.1, omega (arith, a.end, fits, appended_length a)))
 
-  refused_none : (k : ℕ) → answer.outcome ≡ Refused k → bus_cut_text ring bus ≡ []
+  refused_none : (k : Refusal) → answer.outcome ≡ Err k → bus_cut_text ring bus ≡ []
   unfolding number bus_cut_text
   refused_none k e = go (dec_eq number 0)
     where
@@ -130,7 +131,7 @@ module _ (ring : Ring) (bus : ℕ) (buffer : List ℕ) (room : length buffer ≡
       go (inl z) = served_refused (served_answer z).0 e
       go (inr z) = let w : cut_sets_refusal (unloaded ring) bus sheet_room ≢ 0 = rw room at z in rw (ne_eqb (cut_sets_refusal (unloaded ring) bus sheet_room) 0 w)
 
-  pub text_refused : (k : ℕ) {out : List ℕ} → answer.outcome ≡ Refused k
+  pub text_refused : (k : Refusal) {out : List ℕ} → answer.outcome ≡ Err k
       → (out ≡ written (bus_cut_text ring bus) out) × ((0 ≡ length (bus_cut_text ring bus)) × (0 ≤ length out))
   unfolding written
   text_refused k e = rw (refused_none k e) (refl, (refl, omega arith))

@@ -8,7 +8,7 @@ ghost use Rattle.model.specs.States.{unloaded};
 ghost use Rattle.model.specs.CutSets.{cut_sets_reply};
 ghost use Rattle.model.specs.CutText.{sheet_room, text_room, bus_cut_text};
 
-use model::{Outcome, Ring, RingState};
+use model::{Ring, RingState};
 
 // The text of a bus of a ring without bookings in the front of a buffer, and its length: none where the ring or the bus is refused. The
 // sheet goes into a buffer of its own, which is lent too, so that it need not be cleared for each bus.
@@ -23,10 +23,9 @@ pub fn bus_text(ring: Ring, bus: u8, sheet: &mut [u8], out: &mut [u8]) -> usize
     let load = rings::no_load();
     let state = RingState { ring, load };
     let answer = cutsets::list(state, bus, sheet);
-    let outcome = answer.outcome;
     let count = answer.count as usize;
-    match outcome {
-        Outcome::Served => cutlines::text(bus, count, sheet, out),
-        Outcome::Refused(_) => 0,
+    match answer.outcome {
+        Ok(()) => cutlines::text(bus, count, sheet, out),
+        Err(_) => 0,
     }
 }

@@ -8,15 +8,15 @@ use Rattle.cursor.proofs.first_line.Goals as goal
 
 pub header-length-requires : goal.header-length-requires
 header-length-requires c =
-    let t = answer_served _ _ _ (sym c.check_file.ensures.answer ∙ c.in-Served.is) in
+    let t = answer_served _ _ (sym c.check_file.ensures.answer ∙ c.in-Ok.is) in
     (omega (arith, t.2, (file_served _ t.0).few), search rules)
 
-pub returns-in-Refused : goal.returns-in-Refused
-returns-in-Refused c =
-    passed_refused _ (sym c.check_file.ensures.answer ∙ c.in-Refused.is)
+pub returns-in-Err : goal.returns-in-Err
+returns-in-Err c =
+    passed_refused _ (sym c.check_file.ensures.answer ∙ c.in-Err.is)
     c.requires.0 (record { bytes = c.refused_text-length.ensures.bytes; sized = c.refused_text-length.ensures.end }) c.piece_of.ensures
 
-pub returns-in-Served : goal.returns-in-Served
-returns-in-Served c =
-    passed_header _ _ (sym c.check_file.ensures.answer ∙ c.in-Served.is)
-    c.requires.0 (record { bytes = c.header-length.ensures.bytes; sized = c.header-length.ensures.end }) c.piece_of-in-Served.ensures
+pub returns-in-Ok : goal.returns-in-Ok
+returns-in-Ok c =
+    passed_header _ (sym c.check_file.ensures.answer ∙ c.in-Ok.is)
+    c.requires.0 (record { bytes = c.header-length.ensures.bytes; sized = c.header-length.ensures.end }) c.piece_of-in-Ok.ensures

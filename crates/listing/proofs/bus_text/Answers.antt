@@ -15,16 +15,16 @@ listed c = unloaded_reply _ _ _ _ c.no_load-load.ensures c.list-answer.ensures.a
 
 pub text-requires : goal.text-requires
 text-requires c =
-    let t = served_room _ _ _ c.requires.sheet (listed (goal.at.text-requires c).After-list-answer).0 (listed (goal.at.text-requires c).After-list-answer).1 c.in-Served.is in
+    let t = served_room _ _ _ c.requires.sheet (listed (goal.at.text-requires c).After-list-answer).0 (listed (goal.at.text-requires c).After-list-answer).1 c.in-Ok.is in
     (t.0, t.1, omega (arith, t.2, c.list-answer.auto), omega (arith, t.3, c.requires.room))
 
-pub returns-in-Served : goal.returns-in-Served
-returns-in-Served c =
-    let t = text_served _ _ _ c.requires.sheet (listed (goal.at.returns-in-Served c).After-list-answer).0 (listed (goal.at.returns-in-Served c).After-list-answer).1 c.in-Served.is c.requires.room
+pub returns-in-Ok : goal.returns-in-Ok
+returns-in-Ok c =
+    let t = text_served _ _ _ c.requires.sheet (listed (goal.at.returns-in-Ok c).After-list-answer).0 (listed (goal.at.returns-in-Ok c).After-list-answer).1 c.in-Ok.is c.requires.room
     c.text.ensures in
-    record { bytes = t.0; end = t.1.0; within = t.1.1; sheet = (listed (goal.at.returns-in-Served c).After-list-answer).1 }
+    record { bytes = t.0; end = t.1.0; within = t.1.1; sheet = (listed (goal.at.returns-in-Ok c).After-list-answer).1 }
 
-pub returns-in-Refused : goal.returns-in-Refused
-returns-in-Refused c =
-    let t = text_refused _ _ _ c.requires.sheet (listed (goal.at.returns-in-Refused c).After-list-answer).0 (listed (goal.at.returns-in-Refused c).After-list-answer).1 _ c.in-Refused.is in
-    record { bytes = t.0; end = t.1.0; within = t.1.1; sheet = (listed (goal.at.returns-in-Refused c).After-list-answer).1 }
+pub returns-in-Err : goal.returns-in-Err
+returns-in-Err c =
+    let t = text_refused _ _ _ c.requires.sheet (listed (goal.at.returns-in-Err c).After-list-answer).0 (listed (goal.at.returns-in-Err c).After-list-answer).1 _ c.in-Err.is in
+    record { bytes = t.0; end = t.1.0; within = t.1.1; sheet = (listed (goal.at.returns-in-Err c).After-list-answer).1 }
