@@ -12,7 +12,7 @@ use Rattle.model.specs.declared.Ring.{Ring}
 use Rattle.model.specs.declared.Scan.{Scan}
 use Rattle.model.specs.declared.RingAnswer.{RingAnswer}
 use Rattle.model.specs.declared.Choice.{Choice}
-use Rattle.model.specs.Values.{outcome_number}
+use Rattle.model.specs.Values.{refusal_number, outcome_number}
 use Rattle.model.specs.Plant.{PartHealth, smallest, largest}
 use Rattle.model.specs.Choosing.{plan, commands, choices}
 use Rattle.model.specs.Sheet.{opening, closing, sheet, written}

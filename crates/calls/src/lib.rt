@@ -61,7 +61,7 @@ pub fn scan_text(ring: Ring, scan: Scan, i: usize, out: &mut [u8]) -> Line
             Line { ring, length }
         }
         Err(refusal) => {
-            let length = heads::refused_text(refusal as u8, out);
+            let length = heads::refused_text(words::refusal_number(refusal), out);
             Line { ring, length }
         }
     }

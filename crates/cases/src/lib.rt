@@ -68,6 +68,6 @@ pub fn outcome_number(outcome: Result<(), Refusal>) -> u8
 {
     match outcome {
         Ok(()) => 0,
-        Err(refusal) => refusal as u8,
+        Err(refusal) => words::refusal_number(refusal),
     }
 }

@@ -45,6 +45,6 @@ pub fn text(rates: Rates, file: &[u8], out: &mut [u8]) -> usize
     let answer = latest::ring_after(file);
     match answer.outcome {
         Ok(()) => append_buses(rates, answer.ring, out),
-        Err(refusal) => heads::refused_text(refusal as u8, out),
+        Err(refusal) => heads::refused_text(words::refusal_number(refusal), out),
     }
 }

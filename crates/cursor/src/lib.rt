@@ -54,7 +54,7 @@ fn first_line(ring: Ring, file: &[u8], out: &mut [u8]) -> RunPiece
 {
     match files::check_file(file) {
         Err(refusal) => {
-            let length = heads::refused_text(refusal as u8, out);
+            let length = heads::refused_text(words::refusal_number(refusal), out);
             piece_of(Line { ring, length }, 1, false)
         }
         Ok(head) => {

@@ -80,7 +80,7 @@ fn append_answer(answer: ExposureAnswer, out: &mut [u8], at: usize) -> usize
 {
     match answer.outcome {
         Ok(()) => append_figures(answer.exposure, out, at),
-        Err(refusal) => append_refused(refusal as u8, out, at),
+        Err(refusal) => append_refused(words::refusal_number(refusal), out, at),
     }
 }
 

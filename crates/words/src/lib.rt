@@ -1,8 +1,8 @@
-// Words (document 01, "Fault file and reports"), by their numbers.
+// Words (document 01, "Fault file and reports") and refusals ("What is sent back unserved"), by their numbers.
 #![tactic(auto)]
 
 ghost use Rattle.std.specs.Prelude.{◌≡◌};
-ghost use Rattle.model.specs.Values.{word_number, word_values};
+ghost use Rattle.model.specs.Values.{word_number, refusal_number, word_values};
 ghost use Rattle.model.specs.Reports.{word_named};
 ghost use Rattle.model.specs.Answers.{word_answer, byte_values};
 
@@ -30,4 +30,11 @@ pub fn number_of(word: Word) -> u8
     ensures { result ≡ word_number word }
 {
     word as u8
+}
+
+// "Each has its number as the answer": the number of a refusal.
+pub fn refusal_number(refusal: Refusal) -> u8
+    ensures { result ≡ refusal_number refusal }
+{
+    refusal as u8
 }

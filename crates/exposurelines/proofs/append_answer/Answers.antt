@@ -10,7 +10,7 @@ pub returns-in-Ok-clause-within : goal.returns-in-Ok-clause-within
 returns-in-Ok-clause-within c = c.append_figures.ensures.within
 
 pub returns-in-Err-clause-text : goal.returns-in-Err-clause-text
-returns-in-Err-clause-text c = rw (refused_text_lem c.args.answer _ c.in-Err.is) c.append_refused.ensures.text
+returns-in-Err-clause-text c = rw (refused_text_lem c.args.answer _ c.in-Err.is, ← c.refusal_number.ensures) c.append_refused.ensures.text
 
 pub returns-in-Err-clause-within : goal.returns-in-Err-clause-within
 returns-in-Err-clause-within c = omega (arith, c.append_refused.ensures.within)
