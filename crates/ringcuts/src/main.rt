@@ -5,7 +5,7 @@
 ghost use Rattle.std.specs.Prelude.{◌≤◌, length};
 ghost use Rattle.model.specs.CutText.{text_room};
 
-use model::{Outcome, Ring};
+use model::Ring;
 use std::io;
 
 // Prints the texts of the buses in turn.
@@ -35,8 +35,8 @@ fn print_file(rt: &impl Print, file: &[u8], out: &mut [u8]) -> io::Result<()>
     let answer = latest::ring_after(file);
     let outcome = answer.outcome;
     match outcome {
-        Outcome::Served => print_buses(rt, answer.ring, out),
-        Outcome::Refused(number) => print_refused(rt, number, out),
+        Ok(()) => print_buses(rt, answer.ring, out),
+        Err(refusal) => print_refused(rt, refusal as u8, out),
     }
 }
 

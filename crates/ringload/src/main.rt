@@ -6,7 +6,7 @@
 ghost use Rattle.std.specs.Prelude.{◌≤◌, length};
 ghost use Rattle.model.specs.Text.{line_room};
 
-use model::{BookingAnswer, Outcome, RingState, StateAnswer};
+use model::{BookingAnswer, RingState, StateAnswer};
 use reading::Failed;
 use std::io;
 use std::io::Read;
@@ -36,12 +36,12 @@ fn print_answer(rt: &impl Print, n: u8, answer: BookingAnswer, out: &mut [u8]) -
     let outcome = answer.outcome;
     let load = answer.state.load;
     match outcome {
-        Outcome::Served => {
+        Ok(()) => {
             let length = loadlines::figures_line(n, load, out);
             rt.write_all(&out[..length])
         }
-        Outcome::Refused(number) => {
-            let length = heads::refused_text(number, out);
+        Err(refusal) => {
+            let length = heads::refused_text(refusal as u8, out);
             rt.write_all(&out[..length])
         }
     }

@@ -2,7 +2,7 @@
 // (1 is on or closed), a byte each, and prints what feeds each bus.
 #![tactic(auto)]
 
-use model::{BusFeed, Feed, FeedsAnswer, Outcome};
+use model::{BusFeed, Feed, FeedsAnswer};
 use std::io;
 
 // "For each bus its answer is one of three: dark, fed by one generator, or a clash that names the two lowest generators
@@ -25,14 +25,12 @@ fn print_buses(rt: &impl Print, n: u8, buses: &[BusFeed]) -> io::Result<()> {
 
 // The answer, or the number of its refusal.
 fn print_answer(rt: &impl Print, n: u8, answer: FeedsAnswer) -> io::Result<()> {
-    let outcome = answer.outcome;
-    match outcome {
-        Outcome::Refused(k) => println!(rt; "refused {k}"),
-        Outcome::Served => {
-            let buses = answer.buses;
-            print_buses(rt, n, &buses)
-        }
+    if let Err(refusal) = answer.outcome {
+        let number = refusal as u8;
+        return println!(rt; "refused {number}");
     }
+    let buses = answer.buses;
+    print_buses(rt, n, &buses)
 }
 
 // "The plant reckoning takes n, the health of all parts and any set of orders.", the locks "with the health" (document 02, Note 7).

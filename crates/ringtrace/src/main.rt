@@ -2,7 +2,7 @@
 // call, a line for the ring after the word and before the first operation, and a line after each operation of both phases.
 #![tactic(auto)]
 
-use model::{BusFeed, Commands, Feed, FileAnswer, Health, ReportAnswer, Ring, RingState};
+use model::{BusFeed, Commands, Feed, Health, Ring, RingState};
 use std::{fmt, io};
 
 // "For each bus its answer is one of three": `-` dark, `G2` fed, `G1!G2` a clash.
@@ -112,17 +112,14 @@ fn print_reports(rt: &impl Print, first: RingState, codes: &[u8], words: &[u8]) 
     let mut state = first;
     for i in 0..codes.len() {
         let ring = state.ring;
-        match reports::report_at(ring.n, codes, words, i) {
-            ReportAnswer::Read(report) => {
-                let mut sheet = [0u8; 122];
-                let answer = control::step(state, report, &mut sheet);
-                state = answer.state;
-                let after = state.ring;
-                print_call(rt, i + 1, ring.commands, after, &sheet)?;
-            }
-            ReportAnswer::Refused(_) => break,
-            ReportAnswer::Missing => break,
-        }
+        let Ok(Some(report)) = reports::report_at(ring.n, codes, words, i) else {
+            break;
+        };
+        let mut sheet = [0u8; 122];
+        let answer = control::step(state, report, &mut sheet);
+        state = answer.state;
+        let after = state.ring;
+        print_call(rt, i + 1, ring.commands, after, &sheet)?;
     }
     Ok(())
 }
@@ -155,8 +152,11 @@ fn print_file(rt: &impl Print, n: u8, m: usize, file: &[u8]) -> io::Result<()> {
 // The trace of a file, or the number of its refusal.
 fn print_trace(rt: &impl Print, file: &[u8]) -> io::Result<()> {
     match files::check_file(file) {
-        FileAnswer::Refused(k) => println!(rt; "refused {k}"),
-        FileAnswer::Served(n, m) => print_file(rt, n, m, file),
+        Ok(head) => print_file(rt, head.n, head.m, file),
+        Err(refusal) => {
+            let number = refusal as u8;
+            println!(rt; "refused {number}")
+        }
     }
 }
 
