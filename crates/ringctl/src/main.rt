@@ -23,6 +23,7 @@ fn print_run(rt: &impl Print, file: &[u8], out: &mut [u8]) -> io::Result<()>
     Ok(())
 }
 
+// kept: a main shared with the other programs of a file would take a name, a buffer and a closure, in as many lines
 fn main(rt: HostRuntime) {
     let mut file = [0u8; 8196];
     let Ok(size) = reading::read_file(&mut rt.stdin(), &mut file) else {

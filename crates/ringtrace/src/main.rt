@@ -141,7 +141,7 @@ fn print_served(rt: &impl Print, n: u8, codes: &[u8], words: &[u8]) -> io::Resul
     print_reports(rt, state, codes, words)
 }
 
-// A file with m reports: the part codes from byte 3, then the words. One of no bytes (document 02, Note 9) is both of its stretches.
+// A file with m reports: the part codes from byte 3, then the words. One of no bytes (document 02, Note 9) has neither.
 fn print_file(rt: &impl Print, n: u8, m: usize, file: &[u8]) -> io::Result<()> {
     match file.get(3..) {
         Some(rest) if m <= rest.len() => print_served(rt, n, &rest[..m], &rest[m..]),
@@ -160,6 +160,7 @@ fn print_trace(rt: &impl Print, file: &[u8]) -> io::Result<()> {
     }
 }
 
+// kept: a main shared with the other programs of a file would take a name, a buffer and a closure, in as many lines
 fn main(rt: HostRuntime) {
     // The longest file has 8,195 bytes: one byte more tells that a file is too long.
     let mut file = [0u8; 8196];
