@@ -81,6 +81,7 @@ fn same_choices(choices: [BusChoice; 20], case: &[u8], from: usize) -> bool
     requires { from + 40 ≤ length case.now }
     ensures { result ≡ true → ChoicesIn 20 case.now from choices }
 {
+    // kept: with (0..20).all(..) the check leaves `returns` open, and the answer is longer than the loop's
     for b in 0..20 {
         let at = from + 2 * b;
         if !same_choice(choices[b], case[at], case[at + 1]) {

@@ -95,6 +95,7 @@ pub fn without_booking(load: Load, number: u16) -> Load
     ensures { result ≡ without_booking load «number» }
 {
     let mut bookings = load.bookings;
+    // kept: a count beside the loop, since how many are kept is itself stored as `live`.
     let mut kept = 0u8;
     for booking in live(&load) {
         if booking.number != number {

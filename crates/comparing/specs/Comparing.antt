@@ -1,65 +1,68 @@
--- Arrays that are compared place by place.
-use Rattle.std.specs.Prelude.{◌≡◌, refl, Bool, true, false, not, List, ℕ, ◌+◌, ◌<◌, length, get_or}
-use Rattle.std.proofs.Common.{sym, ◌∙◌, arith, ext_get_or, below_more}
+-- What a derived test of equality has told where it holds: the two values are the same.
+use Rattle.std.specs.Prelude.{◌≡◌, refl, Bool, true, false, List, [], ◌∷◌, ◌&&◌}
+use Rattle.std.proofs.Common.{sym, eqb-true}
+use Rattle.std.proofs.Math.Dec.{eqb}
 use Rattle.std.specs.Bool.{beq}
+use Rattle.std.specs.Cmp.{first_so, second_so}
+use Rattle.std.specs.Cmp.Lexicographic.{pointwise, same_text}
+use Rattle.model.specs.declared.Health.{Health}
 use Rattle.model.specs.declared.Commands.{Commands}
-use Rattle.model.specs.Plant.{largest}
+use Rattle.model.specs.declared.Ring.{Ring}
 use Rattle.model.specs.Laws.Tests.{contra}
 
--- two arrays hold the same below place i; d is what is read behind an array's end
-abbrev pub AlikeTo : {A : Type 0} → A → ℕ → List A → List A → Type 0
-AlikeTo d i a b = (k : ℕ) → k < i → get_or a k d ≡ get_or b k d
+-- two lists that a test compares item by item, where it tells that two items are the same
+pub same_items : {A : Type 0} (E : A → A → Bool) → ((x y : A) → E x y ≡ true → x ≡ y) → (xs ys : List A) → pointwise E xs ys ≡ true
+    → xs ≡ ys
+same_items E same [] [] e = refl
+same_items E same [] (y ∷ ys) e = contra e refl
+same_items E same (x ∷ xs) [] e = contra e refl
+same_items E same (x ∷ xs) (y ∷ ys) e =
+    let first = same x y (first_so (E x y) (pointwise E xs ys) e) in
+    let rest = same_items E same xs ys (second_so (E x y) (pointwise E xs ys) e) in
+    λ i. first i ∷ rest i
 
--- .. and all three of two sets of commands do
-pub record SameTo (i : ℕ) (a b : Commands) : Type 0 where
-  pub generators : AlikeTo false i a.generators b.generators
-  pub generator_breakers_lem : AlikeTo false i a.generator_breakers b.generator_breakers
-  pub bus_breakers_lem : AlikeTo false i a.bus_breakers b.bus_breakers
+same_bool : (x y : Bool) → beq x y ≡ true → x ≡ y
+same_bool true true e = refl
+same_bool true false e = contra e refl
+same_bool false true e = contra e refl
+same_bool false false e = refl
 
--- two commands that do not differ are the same
-pub agree : (x y : Bool) → not (beq x y) ≡ false → x ≡ y
-agree true true e = refl
-agree true false e = contra refl e
-agree false true e = contra refl e
-agree false false e = refl
+same_bools : (xs ys : List Bool) → pointwise beq xs ys ≡ true → xs ≡ ys
+same_bools = same_items beq same_bool
 
--- the arrays of the commands have 20 places
-pub record SizedCommands (a : Commands) : Type 0 where
-  pub generators : length a.generators ≡ largest
-  pub generator_breakers_lem : length a.generator_breakers ≡ largest
-  pub bus_breakers_lem : length a.bus_breakers ≡ largest
+abbrev pub health_test : Health → Health → Bool
+health_test a b =
+    pointwise eqb a.generators b.generators
+    && (pointwise eqb a.generator_breakers b.generator_breakers && (pointwise eqb a.bus_breakers b.bus_breakers && pointwise beq a.locked b.locked))
 
-module _ {A : Type 0} (d : A) (x y : List A) where
-  pub alike_none : AlikeTo d 0 x y
-  alike_none k h = absurd (omega arith)
+abbrev pub commands_test : Commands → Commands → Bool
+commands_test a b =
+    pointwise beq a.generators b.generators
+    && (pointwise beq a.generator_breakers b.generator_breakers && pointwise beq a.bus_breakers b.bus_breakers)
 
-  pub alike_more : (i : ℕ) → AlikeTo d i x y → get_or x i d ≡ get_or y i d → AlikeTo d (i + 1) x y
-  alike_more i = below_more (λ k. get_or x k d ≡ get_or y k d) i
+abbrev pub ring_test : Ring → Ring → Bool
+ring_test a b = eqb a.n b.n && (health_test a.health b.health && commands_test a.commands b.commands)
 
-  pub alike_all : (m : ℕ) → length x ≡ m → length y ≡ m → AlikeTo d m x y → x ≡ y
-  alike_all m e f h = ext_get_or d x y (e ∙ sym f) (λ k l. h k (omega arith))
+pub same_healths : (a b : Health) → health_test a b ≡ true → a ≡ b
+same_healths a b e =
+    let rest = second_so (pointwise eqb a.generators b.generators) _ e in
+    let last = second_so (pointwise eqb a.generator_breakers b.generator_breakers) _ rest in
+    let first = same_text _ _ (sym (first_so _ _ e)) in
+    let second = same_text _ _ (sym (first_so _ _ rest)) in
+    let third = same_text _ _ (sym (first_so _ _ last)) in
+    let locks = same_bools _ _ (second_so (pointwise eqb a.bus_breakers b.bus_breakers) _ last) in
+    λ i. record { generators = first i; generator_breakers = second i; bus_breakers = third i; locked = locks i }
 
-module _ (a b : Commands) where
-  pub same_none : SameTo 0 a b
-  same_none = record {
-    generators = alike_none false a.generators b.generators;
-    generator_breakers_lem = alike_none false a.generator_breakers b.generator_breakers;
-    bus_breakers_lem = alike_none false a.bus_breakers b.bus_breakers;
-  }
+pub same_commands : (a b : Commands) → commands_test a b ≡ true → a ≡ b
+same_commands a b e =
+    let first = same_bools _ _ (first_so _ _ e) in
+    let second = same_bools _ _ (first_so _ _ (second_so _ _ e)) in
+    let third = same_bools _ _ (second_so _ _ (second_so _ _ e)) in
+    λ i. record { generators = first i; generator_breakers = second i; bus_breakers = third i }
 
-  pub same_more : (i : ℕ) → SameTo i a b → get_or a.generators i false ≡ get_or b.generators i false
-      → get_or a.generator_breakers i false ≡ get_or b.generator_breakers i false
-      → get_or a.bus_breakers i false ≡ get_or b.bus_breakers i false → SameTo (i + 1) a b
-  same_more i s e f g = record {
-    generators = alike_more false a.generators b.generators i s.generators e;
-    generator_breakers_lem = alike_more false a.generator_breakers b.generator_breakers i s.generator_breakers_lem f;
-    bus_breakers_lem = alike_more false a.bus_breakers b.bus_breakers i s.bus_breakers_lem g;
-  }
-
-  pub same_all : SizedCommands a → SizedCommands b → SameTo largest a b → a ≡ b
-  same_all p q s =
-      let e = alike_all false a.generators b.generators largest p.generators q.generators s.generators in
-      let f = alike_all false a.generator_breakers b.generator_breakers largest p.generator_breakers_lem q.generator_breakers_lem
-      s.generator_breakers_lem in
-      let g = alike_all false a.bus_breakers b.bus_breakers largest p.bus_breakers_lem q.bus_breakers_lem s.bus_breakers_lem in
-      λ i. record { generators = e i; generator_breakers = f i; bus_breakers = g i }
+pub same_rings : (a b : Ring) → ring_test a b ≡ true → a ≡ b
+same_rings a b e =
+    let n = eqb-true _ _ (first_so _ _ e) in
+    let health = same_healths _ _ (first_so _ _ (second_so _ _ e)) in
+    let commands = same_commands _ _ (second_so _ _ (second_so _ _ e)) in
+    λ i. record { n = n i; health = health i; commands = commands i }

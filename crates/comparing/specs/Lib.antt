@@ -1,2 +1,2 @@
--- What is compared place by place.
+-- What a test of equality tells.
 pub mod Comparing

@@ -1,2 +1,2 @@
--- What makes two places, or two loads, the same.
+-- What a test of equality tells of loads and ring states.
 pub mod Same

@@ -1,11 +1,11 @@
 -- The text of a bus's minimal cut sets made from the bytes of their sheet: a count of two bytes, then three bytes a set.
-use Rattle.std.specs.Prelude.{◌≡◌, false, cond, ◌⊎◌, ◌≢◌, ℕ, suc, ◌+◌, ◌*◌, ◌≤◌, ◌<◌, eqb, length, get_or}
+use Rattle.std.specs.Prelude.{◌≡◌, false, cond, ◌⊎◌, ◌≢◌, ℕ, suc, ◌+◌, ◌-◌, ◌*◌, ◌≤◌, ◌<◌, eqb, length, get_or, take, drop}
 use Rattle.std.proofs.Math.Path.{refl, sym, ap}
 use Rattle.std.proofs.Common.{◌∙◌, inl, inr, add-one, arith, length-append}
 use mathlib.Core.List.Memᴰ
 use mathlib.Core.List.{List, [], ◌∷◌, ◌++◌, map, map-append, append_assoc}
 use Prim.Native.Char.{code}
-use Rattle.std.proofs.lemmas.List.{length-map}
+use Rattle.std.proofs.lemmas.List.{length-map, length-take-le, length-drop, get_or-take, get_or-drop, get_or_append_left, drop_at, drop-drop}
 use borrow.Author.Tests.{eq-eqb, ne_eqb}
 use Rattle.model.specs.declared.Part.{Part}
 use Rattle.model.specs.declared.Part.TheVariants.{Generator, GeneratorBreaker, BusBreaker}
@@ -98,6 +98,44 @@ unfolding lines_of below
 lines_more bytes i first e before next =
     rw (add-one, map-append, joined_one (map (λ j. line_from bytes (2 + 3 * j)) (below i)) (line_from bytes (2 + 3 * i)), ← e)
     (appended_more before next)
+
+-- the bytes of the first sets, three by three: what is left after k of them
+module _ (sheet : List ℕ) (count : ℕ) (h : 2 + 3 * count ≤ length sheet) where
+  abbrev stretch : List ℕ
+  stretch = take (2 + 3 * count - 2) (drop 2 sheet)
+
+  stretch_length : length stretch ≡ 3 * count
+  stretch_length = length-take-le (2 + 3 * count - 2) (drop 2 sheet) (omega (arith, length-drop 2 sheet)) ∙ omega arith
+
+  stretch_at : (i : ℕ) → i < 3 * count → get_or stretch i 0 ≡ get_or sheet (2 + i) 0
+  stretch_at i l = get_or-take (2 + 3 * count - 2) (drop 2 sheet) i 0 (omega arith) ∙ get_or-drop 2 sheet i 0
+
+  module _ (k : ℕ) {rest : List ℕ} (left : rest ≡ drop (3 * k) stretch) where
+    left_length : length rest ≡ 3 * count - 3 * k
+    left_length = ap length left ∙ length-drop (3 * k) stretch ∙ omega (arith, stretch_length)
+
+    -- none is left
+    pub sets_end : k ≤ count → length rest < 3 → k ≡ count
+    sets_end m l = omega (arith, left_length)
+
+    -- the next one: its line, and what is left after it
+    pub sets_turn : (set after : List ℕ) → rest ≡ set ++ after → length set ≡ 3
+        → (k < count) × (after ≡ drop (3 * (k + 1)) stretch)
+        × (bytes_line (get_or set 0 0) (get_or set 1 0) (get_or set 2 0) ≡ line_from sheet (2 + 3 * k))
+    unfolding line_from
+    sets_turn set after e l =
+        (more, behind, rw (byte 0 (2 + 3 * k) (omega arith, omega arith), byte 1 (suc (2 + 3 * k)) (omega arith, omega arith), byte 2 (suc (suc (2 + 3 * k))) (omega arith, omega arith)))
+      where
+        more : k < count
+        more = omega (arith, left_length, ap length e, length-append set after)
+
+        behind : after ≡ drop (3 * (k + 1)) stretch
+        behind = sym (drop_at set after 3 l) ∙ ap (drop 3) (sym e ∙ left) ∙ drop-drop 3 (3 * k) stretch ∙ ap (λ n. drop n stretch) (omega arith)
+
+        byte : (i j : ℕ) → (i < 3) × (j ≡ 2 + (3 * k + i)) → get_or set i 0 ≡ get_or sheet j 0
+        byte i j m =
+            sym (get_or_append_left set after 0 i (omega (arith, m))) ∙ ap (λ xs. get_or xs i 0) (sym e ∙ left)
+            ∙ get_or-drop (3 * k) stretch i 0 ∙ stretch_at (3 * k + i) (omega (arith, more, m)) ∙ ap (λ n. get_or sheet n 0) (sym m.1)
 
 -- ---- the bus's line and the whole text, as they are appended
 

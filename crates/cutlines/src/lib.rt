@@ -6,8 +6,9 @@
 ghost use Rattle.std.specs.Prelude.{◌+◌, ◌*◌, ◌<◌, ◌≤◌, length};
 ghost use Rattle.model.specs.CutText.{count_line};
 ghost use Rattle.model.specs.Laws.Appended.{Appended};
-ghost use Rattle.cutlines.specs.Sets.{name_before, bytes_line, line_from, lines_of, text_of};
+ghost use Rattle.cutlines.specs.Sets.{name_before, bytes_line, lines_of, text_of};
 
+use appending::append;
 use numbers::{append_large, append_marked};
 use operations::append_part;
 
@@ -28,9 +29,7 @@ fn append_set(a: u8, b: u8, c: u8, out: &mut [u8], at: usize) -> usize
     ensures { Appended (bytes_line a b c) out.old at out.new result }
 {
     if a == 255 {
-        out[at] = b'-';
-        out[at + 1] = b'\n';
-        return at + 2;
+        return append(b"-\n", out, at);
     }
     let second = append_before(a, b, out, at);
     if b == 255 {
@@ -43,22 +42,14 @@ fn append_set(a: u8, b: u8, c: u8, out: &mut [u8], at: usize) -> usize
     append_before(c, 255, out, third)
 }
 
-// The line of the set whose three bytes stand in a sheet from `first` on.
-fn append_from(sheet: &[u8], first: usize, out: &mut [u8], at: usize) -> usize
-    requires { (first + 3 ≤ length sheet.now) × (at + 15 ≤ length out.old) }
-    ensures { Appended (line_from sheet.now first) out.old at out.new result }
-{
-    append_set(sheet[first], sheet[first + 1], sheet[first + 2], out, at)
-}
-
 // The lines of the first `count` sets of a sheet.
 fn append_sets(count: usize, sheet: &[u8], out: &mut [u8], at: usize) -> usize
     requires { (2 + 3 * count ≤ length sheet.now) × (at + 15 * count ≤ length out.old) }
     ensures { Appended (lines_of sheet.now count) out.old at out.new result }
 {
     let mut end = at;
-    for i in 0..count {
-        end = append_from(sheet, 2 + 3 * i, out, end);
+    for set in sheet[2..2 + 3 * count].chunks_exact(3) {
+        end = append_set(set[0], set[1], set[2], out, end);
     }
     end
 }

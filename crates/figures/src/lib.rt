@@ -16,7 +16,8 @@ pub fn with_figures(choices: [BusChoice; 20], load: Load) -> Load
 {
     let mut watts = [0u32; 20];
     let mut dark_watts = 0u32;
-    for booking in bookings::live(&load) {
+    let live = bookings::live(&load);
+    for booking in live {
         let fed = choices[(booking.bus - 1) as usize];
         let choice = fed.choice;
         match choice {

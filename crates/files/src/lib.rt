@@ -13,6 +13,7 @@ use model::{FileHead, Refusal};
 fn check_reports(n: u8, codes: &[u8], words: &[u8]) -> Result<(), Refusal>
     ensures { result ≡ outcome_of (reports_refusal n codes.now words.now) }
 {
+    // kept: `reports::report_at` answers by a report's place, and the words may be fewer than the codes
     for i in 0..codes.len() {
         let Some(_) = reports::report_at(n, codes, words, i)? else {
             return Ok(());

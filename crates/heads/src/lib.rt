@@ -30,13 +30,22 @@ pub fn header(n: u8, m: usize, out: &mut [u8]) -> usize
     end + 1
 }
 
+// The word and the number of a refusal, and a line feed behind them, in any text. It tells how far they reach at most.
+pub fn append_refused(number: u8, out: &mut [u8], at: usize) -> usize
+    requires { at + 13 ≤ length out.old }
+    ensures text { Appended (refused_text number) out.old at out.new result }
+    ensures within { result ≤ at + 13 }
+{
+    let end = append_labelled(b"refused ", number as usize, out, at);
+    out[end] = b'\n';
+    end + 1
+}
+
 // "For a refused file it prints only `refused` and the number"
 pub fn refused_text(k: u8, out: &mut [u8]) -> usize
     requires { line_room ≤ length out.old }
     ensures bytes { out.new ≡ written (refused_text k) out.old }
     ensures end { result ≡ length (refused_text k) }
 {
-    let end = append_labelled(b"refused ", k as usize, out, 0);
-    out[end] = b'\n';
-    end + 1
+    append_refused(k, out, 0)
 }

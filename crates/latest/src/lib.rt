@@ -28,6 +28,7 @@ fn told_all(n: u8, codes: &[u8], words: &[u8]) -> Ring
     ensures { result ≡ told_reports n codes.now words.now (length codes.now) }
 {
     let mut ring = rings::blank(n);
+    // kept: `reports::report_at` answers by a report's place, and the words may be fewer than the codes
     for i in 0..codes.len() {
         let answer = reports::report_at(n, codes, words, i);
         ring = told_answer(ring, answer);

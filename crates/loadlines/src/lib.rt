@@ -34,8 +34,8 @@ fn append_generators(n: usize, load: Load, out: &mut [u8], at: usize) -> usize
     ensures within { result ≤ at + 15 * n }
 {
     let mut end = at;
-    for g in 0..n {
-        end = append_watts(g as u8 + 1, load.watts[g], out, end);
+    for (g, watts) in load.watts[..n].iter().enumerate() {
+        end = append_watts(g as u8 + 1, *watts, out, end);
     }
     end
 }

@@ -52,6 +52,7 @@ pub fn append_number(k: usize, out: &mut [u8], at: usize) -> usize
 }
 
 // A number of at most five digits: the number of its tens, then its last digit.
+// kept: beside `append_whole`, since it asks for five bytes of room, not ten; one recursion for both would need a function around it for each.
 pub fn append_large(k: usize, out: &mut [u8], at: usize) -> usize
     requires { (k < 100000) × (at + 5 ≤ length out.old) }
     ensures { Appended (decimal k) out.old at out.new result }

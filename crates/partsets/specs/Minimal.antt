@@ -1,5 +1,5 @@
 -- Whether a set counts, and when no larger one does.
-use Rattle.std.specs.Prelude.{◌≡◌, Bool, false, ◌⊎◌, List, ◌++◌, ℕ, ◌+◌, ◌<◌, length}
+use Rattle.std.specs.Prelude.{◌≡◌, Bool, false, ◌⊎◌, List, ◌++◌, ℕ, ◌+◌, ◌-◌, ◌<◌, map, take, drop, length}
 use Rattle.std.proofs.Common.{sym, inl, inr, arith}
 use Rattle.std.proofs.Math.Bool.{true}
 use Rattle.std.proofs.Math.ListN.{length-append}
@@ -14,7 +14,8 @@ use Rattle.model.specs.Laws.CutSets.{faults_both}
 use Rattle.theory.proofs.Proofs.Subsets.{sub_front, without, without_proper}
 use Rattle.theory.proofs.Theorems.CutSets.{not_dark, not_least, minimal_one}
 use Rattle.outages.specs.Least.{Least}
-use Rattle.partsets.specs.Sets.{parts_of, parts_from, all_faults, other_faults}
+use Rattle.faults.specs.Places.{part_at}
+use Rattle.partsets.specs.Sets.{parts_of, places_behind, other_faults}
 
 -- no set of S and k parts more counts
 abbrev pub NoneCounts : ℕ → PartHealth → ℕ → List Part → ℕ → Type 0
@@ -40,24 +41,25 @@ module _ (n : ℕ) (H : PartHealth) (b : ℕ) (S : List Part) (m k : ℕ) (l : L
 
 -- ---- one part left out at a time
 
--- the health K after the faults of a set that is held, and that after the faults of all its parts but one
+-- the health K after the faults of all parts of a set, and that after those of all but one
 module _ (n : ℕ) (H : PartHealth) (b : ℕ) (s : PartSet) {K : PartHealth} where
-  pub least_after : {m : ℕ} → K ≡ with_faults H (parts_from n s 0 s.count) → Least n K b m
+  pub least_after : {m : ℕ} → K ≡ with_faults H (map (part_at n) (take s.count s.places)) → Least n K b m
       → Least n (with_faults H (parts_of n s)) b m
-  least_after e l = rw (all_faults n H s) (rw e at l)
+  unfolding parts_of
+  least_after e l = rw e at l
 
-  pub dark_after : {t : Bool} → K ≡ with_faults H (parts_from n s 0 s.count) → is_none (plan n K b) ≡ t
+  pub dark_after : {t : Bool} → K ≡ with_faults H (map (part_at n) (take s.count s.places)) → is_none (plan n K b) ≡ t
       → darkens n H b (parts_of n s) ≡ t
-  unfolding darkens
-  dark_after e d = rw (all_faults n H s) (rw e at d)
+  unfolding darkens parts_of
+  dark_after e d = rw e at d
 
-  -- the faults of the parts from index j up to index i are those before the one left out, those from index k on those behind it
-  pub dark_without : (i : ℕ) {j k : ℕ} {J : PartHealth} {t : Bool} → i < s.count
-      → J ≡ with_faults H (parts_from n s j i)
-      → K ≡ with_faults J (parts_from n s k s.count) → is_none (plan n K b) ≡ t
-      → j ≡ 0 → k ≡ i + 1 → darkens n H b (without i (parts_of n s)) ≡ t
+  -- the faults of the parts up to index i are those before the one left out, those from the next on those behind it
+  pub dark_without : (i : ℕ) {J : PartHealth} {t : Bool} → i < s.count
+      → J ≡ with_faults H (map (part_at n) (take i s.places))
+      → K ≡ with_faults J (map (part_at n) (take (s.count - (i + 1)) (drop (i + 1) s.places))) → is_none (plan n K b) ≡ t
+      → darkens n H b (without i (parts_of n s)) ≡ t
   unfolding darkens
-  dark_without i {J = J} h e f d z y = rw (other_faults n H s i J h (rw z at e)) at (rw (f, y) at d)
+  dark_without i {J = J} h e f d = rw (other_faults n H s i J h e) at (rw (f, places_behind s i h) at d)
 
 module _ (n : ℕ) (H : PartHealth) (b : ℕ) (hb : b < n) (S : List Part) where
   pub lit : darkens n H b S ≡ false → false ≡ minimal n H b S

@@ -1,11 +1,11 @@
 -- A set that is being made, held by the places of its parts: the parts, their faults, and their bytes.
 use Rattle.std.specs.Prelude.{◌≡◌, ◌⊎◌, ◌≢◌, ℕ, zero, suc, ◌+◌, ◌-◌, ◌*◌, ◌≤◌, ◌<◌, set, take, drop}
 use Rattle.std.proofs.Math.Path.{refl, sym, ap}
-use Rattle.std.proofs.Common.{◌∙◌, inl, inr, arith, add-one, get_or-set_other, get_or-take, take-take}
+use Rattle.std.proofs.Common.{◌∙◌, inl, inr, arith, add-one, get_or-set_other, get_or-take, take-take, drop-cons, drop_of_length-le}
 use mathlib.Core.List.{List, [], ◌∷◌, ◌++◌, map, map-append}
 use Rattle.std.proofs.Math.ListN.{length, get_or, get_or-append, get_or-replicate}
-use Rattle.std.proofs.lemmas.List.{length-map}
-use Rattle.std.proofs.Math.Seq.{get_or-append-add, get_or-set_same, take-suc-set, length-take-le, slice, slice-cons, slice_empty}
+use Rattle.std.proofs.lemmas.List.{length-map, drop-take}
+use Rattle.std.proofs.Math.Seq.{get_or-append-add, get_or-set_same, take-suc-set, length-take-le}
 use Rattle.partsets.specs.declared.PartSet.{PartSet}
 use Rattle.model.specs.declared.Part.{Part}
 use Rattle.model.specs.Values.{part_code}
@@ -21,6 +21,10 @@ use Rattle.faults.specs.Places.{part_at}
 -- the set with one part more, at the next index
 unfoldable pub with_place : PartSet → ℕ → PartSet
 with_place s p = record { places = set s.places s.count p; count = s.count + 1 }
+
+-- places of the ring
+abbrev pub Inside : ℕ → List ℕ → Type 0
+Inside n l = (i : ℕ) → i < length l → get_or l i 0 < 3 * n
 
 -- at most three places, each of the ring
 pub record Held (n : ℕ) (s : PartSet) : Type 0 where
@@ -51,22 +55,17 @@ module _ (n : ℕ) (s : PartSet) (p : ℕ) (full : length s.places ≡ 3) (l : s
 
 -- ---- the faults of a set
 
--- its parts from index i up to index t
-unfoldable pub parts_from : ℕ → PartSet → ℕ → ℕ → List Part
-parts_from n s i t = map (part_at n) (slice i t s.places)
-
-module _ (n : ℕ) (H : PartHealth) (s : PartSet) (i t : ℕ) where
+module _ (n : ℕ) (H : PartHealth) (l : List ℕ) (i : ℕ) where
   -- one part more
-  pub fault_step : i < t → t ≤ length s.places
-      → with_faults H (parts_from n s i t) ≡ with_faults (with_faults H (part_at n (get_or s.places i 0) ∷ [])) (parts_from n s (i + 1) t)
-  unfolding parts_from
-  fault_step h k =
-      rw (add-one, ← faults_both H (part_at n (get_or s.places i 0) ∷ []) (map (part_at n) (slice (suc i) t s.places)))
-      (ap (λ (x : List ℕ). with_faults H (map (part_at n) x)) (slice-cons i t s.places 0 h k))
+  pub fault_step : i < length l
+      → with_faults H (map (part_at n) (drop i l)) ≡ with_faults (with_faults H (part_at n (get_or l i 0) ∷ [])) (map (part_at n) (drop (i + 1) l))
+  fault_step h =
+      rw (add-one, drop-cons l i 0 h)
+      (faults_both H (part_at n (get_or l i 0) ∷ []) (map (part_at n) (drop (suc i) l)))
 
-  pub fault_end : i ≡ t → with_faults H (parts_from n s i t) ≡ H
-  unfolding with_faults parts_from
-  fault_end e = rw (e, slice_empty t s.places)
+  pub fault_end : length l ≤ i → with_faults H (map (part_at n) (drop i l)) ≡ H
+  unfolding with_faults
+  fault_end e = rw (drop_of_length-le l {i = i} e)
 
 map_take : (f : ℕ → Part) (i : ℕ) (l : List ℕ) → take i (map f l) ≡ map f (take i l)
 map_take f zero l = refl
@@ -78,22 +77,25 @@ map_drop f zero l = refl
 map_drop f (suc i) [] = refl
 map_drop f (suc i) (x ∷ l) = map_drop f i l
 
+-- the places after an index, as code cuts them
+pub places_behind : (s : PartSet) (i : ℕ) → i < s.count → take (s.count - (i + 1)) (drop (i + 1) s.places) ≡ drop (i + 1) (take s.count s.places)
+places_behind s i h =
+    let z : i + 1 + (s.count - (i + 1)) ≡ s.count = omega arith in
+    sym (rw z at (drop-take (i + 1) (s.count - (i + 1)) s.places))
+
 -- the parts before an index and those after it
 without_parts : (n : ℕ) (s : PartSet) (i : ℕ) → i < s.count
-    → without i (parts_of n s) ≡ parts_from n s 0 i ++ parts_from n s (i + 1) s.count
-unfolding without parts_of parts_from
+    → without i (parts_of n s) ≡ map (part_at n) (take i s.places) ++ map (part_at n) (drop (i + 1) (take s.count s.places))
+unfolding without parts_of
 without_parts n s i h =
     rw (add-one, map_take (part_at n) i (take s.count s.places), map_drop (part_at n) (suc i) (take s.count s.places))
     (rw (take-take i s.count s.places (omega arith)))
 
 module _ (n : ℕ) (H : PartHealth) (s : PartSet) where
-  pub all_faults : with_faults H (parts_of n s) ≡ with_faults H (parts_from n s 0 s.count)
-  unfolding parts_of parts_from
-  all_faults = refl
-
-  pub other_faults : (i : ℕ) (J : PartHealth) → i < s.count → J ≡ with_faults H (parts_from n s 0 i)
-      → with_faults J (parts_from n s (i + 1) s.count) ≡ with_faults H (without i (parts_of n s))
-  other_faults i J h e = rw (e, without_parts n s i h, faults_both H (parts_from n s 0 i) (parts_from n s (i + 1) s.count))
+  pub other_faults : (i : ℕ) (J : PartHealth) → i < s.count → J ≡ with_faults H (map (part_at n) (take i s.places))
+      → with_faults J (map (part_at n) (drop (i + 1) (take s.count s.places))) ≡ with_faults H (without i (parts_of n s))
+  other_faults i J h e =
+      rw (e, without_parts n s i h, faults_both H (map (part_at n) (take i s.places)) (map (part_at n) (drop (i + 1) (take s.count s.places))))
 
 pub parts_count : (n : ℕ) (s : PartSet) → length s.places ≡ 3 → s.count ≤ 3 → length (parts_of n s) ≡ s.count
 unfolding parts_of

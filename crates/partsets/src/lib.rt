@@ -2,11 +2,12 @@
 // Buses and places are indices from 0.
 #![tactic(auto)]
 
-ghost use Rattle.std.specs.Prelude.{◌≡◌, true, ◌+◌, ◌*◌, ◌≤◌, ◌<◌, length, get_or};
+ghost use Rattle.std.specs.Prelude.{◌≡◌, true, ◌+◌, ◌*◌, ◌≤◌, ◌<◌, map, length, get_or};
 ghost use Rattle.model.specs.Reports.{health_of};
 ghost use Rattle.model.specs.CutSets.{with_faults, minimal, set_bytes};
 ghost use Rattle.model.specs.Laws.Appended.{Appended};
-ghost use Rattle.partsets.specs.Sets.{Held, with_place, parts_of, parts_from};
+ghost use Rattle.faults.specs.Places.{part_at};
+ghost use Rattle.partsets.specs.Sets.{Held, Inside, with_place, parts_of};
 ghost use Rattle.partsets.specs.Minimal.{NoneCounts};
 
 use model::Health;
@@ -40,14 +41,14 @@ pub fn with_place(set: PartSet, p: usize) -> PartSet
     more
 }
 
-// The health after the further faults of the parts of a set from one index up to another.
-fn with_faults(n: usize, health: Health, set: PartSet, from: usize, to: usize) -> Health
-    requires { (n ≤ 20) × Held n set × (from ≤ to) × (to ≤ set.count) }
-    ensures { health_of result ≡ with_faults (health_of health) (parts_from n set from to) }
+// The health after the further faults of the parts at these places.
+fn with_faults(n: usize, health: Health, places: &[usize]) -> Health
+    requires { (n ≤ 20) × Inside n places.now }
+    ensures { health_of result ≡ with_faults (health_of health) (map (part_at n) places.now) }
 {
     let mut after = health;
-    for i in from..to {
-        after = faults::failed(n, after, set.places[i]);
+    for place in places {
+        after = faults::failed(n, after, *place);
     }
     after
 }
@@ -58,7 +59,7 @@ pub fn hopeless(n: usize, health: Health, b: usize, set: PartSet, faults: usize)
     ensures { result ≡ true → NoneCounts n (health_of health) b (parts_of n set) faults }
 {
     let count = set.count;
-    let after = with_faults(n, health, set, 0, count);
+    let after = with_faults(n, health, &set.places[..count]);
     let least = outages::least_faults(n, after, b);
     if least == 0 {
         return 0 < faults;
@@ -72,13 +73,13 @@ pub fn is_minimal(n: usize, health: Health, b: usize, set: PartSet) -> bool
     ensures { result ≡ minimal n (health_of health) b (parts_of n set) }
 {
     let count = set.count;
-    let all = with_faults(n, health, set, 0, count);
+    let all = with_faults(n, health, &set.places[..count]);
     if !outages::is_dark(n, all, b) {
         return false;
     }
     for i in 0..count {
-        let before = with_faults(n, health, set, 0, i);
-        let others = with_faults(n, before, set, i + 1, count);
+        let before = with_faults(n, health, &set.places[..i]);
+        let others = with_faults(n, before, &set.places[i + 1..count]);
         if outages::is_dark(n, others, b) {
             return false;
         }

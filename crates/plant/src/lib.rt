@@ -33,6 +33,7 @@ fn bus_feed(n: usize, health: Health, commands: Commands, b: usize) -> Feed
     ensures { result ≡ bus_feed n (health_of health) (commands_of commands) b }
 {
     let mut feed = Feed::Dark;
+    // kept: g is the generator asked about, no index; (0..n).filter(..).fold(..) takes as many lines
     for g in 0..n {
         if feeding::feeds_bus(n, health, commands, b, g) {
             feed = with_feeder(feed, (g + 1) as u8);
@@ -55,6 +56,7 @@ fn bus_feeds(n: usize, health: Health, commands: Commands) -> [BusFeed; 20]
     ensures { result ≡ feeds_below (bus_feed n (health_of health) (commands_of commands)) n }
 {
     let mut buses = dark_buses();
+    // kept: b is the bus asked about; buses.iter_mut().take(n).enumerate() names it no plainer
     for b in 0..n {
         let feed = bus_feed(n, health, commands, b);
         buses[b] = BusFeed { feed: feed };

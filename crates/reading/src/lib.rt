@@ -1,47 +1,40 @@
 // What is read from standard input or a file, in a lent buffer; of a fault file as much as decides its run.
 #![tactic(auto)]
 
-ghost use Rattle.std.specs.Prelude.{◌≡◌, length};
+ghost use Rattle.std.specs.Prelude.{◌≡◌, length, MatchResult};
 ghost use Rattle.reading.specs.Counts.{IsPrefixLen};
 ghost use Rattle.model.specs.Text.{read_size};
 
 use std::io::Read;
 
-// What was read: how many bytes, and whether a read failed.
-#[derive(Clone, Copy)]
-pub struct Input {
+// A read failed, behind as many bytes.
+#[derive(Clone, Copy, Debug, PartialEq, Eq)]
+pub struct Failed {
     pub size: usize,
-    pub failed: bool,
 }
 
-// Reads until the buffer is full, the input ends or a read fails. A read that gives no byte is the end of the input.
-pub fn read_full<R: Read>(source: &mut R, buffer: &mut [u8]) -> Input
-    ensures { IsPrefixLen result.size buffer.new }
+// Reads until the buffer is full, the input ends or a read fails, and answers how many bytes. A read that gives no byte is the end of the
+// input.
+pub fn read_full<R: Read>(source: &mut R, buffer: &mut [u8]) -> Result<usize, Failed>
+    ensures { MatchResult result (λ size. IsPrefixLen size buffer.new) (λ failed. IsPrefixLen failed.size buffer.new) }
 {
     let mut size = 0;
     while size < buffer.len() {
-        match source.read(&mut buffer[size..]) {
-            Ok(more) => {
-                if more == 0 {
-                    let failed = false;
-                    return Input { size, failed };
-                }
-                size += more;
-            }
-            Err(_) => {
-                let failed = true;
-                return Input { size, failed };
-            }
+        let Ok(more) = source.read(&mut buffer[size..]) else {
+            return Err(Failed { size });
+        };
+        if more == 0 {
+            break;
         }
+        size += more;
     }
-    let failed = false;
-    Input { size, failed }
+    Ok(size)
 }
 
 // Reads as much of the file as decides its run.
-pub fn read_file<R: Read>(source: &mut R, file: &mut [u8]) -> Input
+pub fn read_file<R: Read>(source: &mut R, file: &mut [u8]) -> Result<usize, Failed>
     requires { length file.old ≡ read_size }
-    ensures { IsPrefixLen result.size file.new }
+    ensures { MatchResult result (λ size. IsPrefixLen size file.new) (λ failed. IsPrefixLen failed.size file.new) }
 {
     read_full(source, file)
 }

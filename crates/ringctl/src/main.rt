@@ -5,8 +5,10 @@
 ghost use Rattle.std.specs.Prelude.{◌≤◌, length};
 ghost use Rattle.model.specs.Text.{line_room};
 
-// Prints the run of a file, and answers whether all of it could be written.
-fn print_run(rt: &impl Print, file: &[u8], out: &mut [u8]) -> bool
+use std::io;
+
+// Prints the run of a file.
+fn print_run(rt: &impl Print, file: &[u8], out: &mut [u8]) -> io::Result<()>
     requires { line_room ≤ length out.old }
 {
     let mut cursor = run::begin();
@@ -14,25 +16,22 @@ fn print_run(rt: &impl Print, file: &[u8], out: &mut [u8]) -> bool
     while more {
         let piece = run::fill(cursor, file, out);
         let length = piece.length;
-        if rt.write_all(&out[..length]).is_err() {
-            return false;
-        }
+        rt.write_all(&out[..length])?;
         cursor = piece.cursor;
         more = piece.more;
     }
-    true
+    Ok(())
 }
 
+// kept: a main shared with the other programs of a file would take a name, a buffer and a closure, in as many lines
 fn main(rt: HostRuntime) {
     let mut file = [0u8; 8196];
-    let input = reading::read_file(&mut rt.stdin(), &mut file);
-    if input.failed {
+    let Ok(size) = reading::read_file(&mut rt.stdin(), &mut file) else {
         let _ = rt.eprintln("ringctl: standard input cannot be read");
         return;
-    }
-    let size = input.size;
+    };
     let mut out = [0u8; 65536];
-    if !print_run(&rt, &file[..size], &mut out) {
+    if print_run(&rt, &file[..size], &mut out).is_err() {
         let _ = rt.eprintln("ringctl: standard output cannot be written");
     }
 }

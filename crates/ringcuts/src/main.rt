@@ -5,53 +5,50 @@
 ghost use Rattle.std.specs.Prelude.{◌≤◌, length};
 ghost use Rattle.model.specs.CutText.{text_room};
 
-use model::{Outcome, Ring};
+use model::Ring;
+use std::io;
 
-// Prints the texts of the buses in turn, and answers whether all could be written.
-fn print_buses(rt: &impl Print, ring: Ring, out: &mut [u8]) -> bool
+// Prints the texts of the buses in turn.
+fn print_buses(rt: &impl Print, ring: Ring, out: &mut [u8]) -> io::Result<()>
     requires { text_room ≤ length out.old }
 {
     let mut sheet = [0u8; 108155];
-    let n = ring.n;
-    for b in 0..n {
-        let length = listing::bus_text(ring, b + 1, &mut sheet, out);
-        if rt.write_all(&out[..length]).is_err() {
-            return false;
-        }
+    for number in 1..=ring.n {
+        let length = listing::bus_text(ring, number, &mut sheet, out);
+        rt.write_all(&out[..length])?;
     }
-    true
+    Ok(())
 }
 
 // Prints the refusal of a file as its run has it.
-fn print_refused(rt: &impl Print, number: u8, out: &mut [u8]) -> bool
+fn print_refused(rt: &impl Print, number: u8, out: &mut [u8]) -> io::Result<()>
     requires { text_room ≤ length out.old }
 {
     let length = heads::refused_text(number, out);
-    rt.write_all(&out[..length]).is_ok()
+    rt.write_all(&out[..length])
 }
 
 // Prints the cut sets of a file, or its refusal.
-fn print_file(rt: &impl Print, file: &[u8], out: &mut [u8]) -> bool
+fn print_file(rt: &impl Print, file: &[u8], out: &mut [u8]) -> io::Result<()>
     requires { text_room ≤ length out.old }
 {
     let answer = latest::ring_after(file);
     let outcome = answer.outcome;
     match outcome {
-        Outcome::Served => print_buses(rt, answer.ring, out),
-        Outcome::Refused(number) => print_refused(rt, number, out),
+        Ok(()) => print_buses(rt, answer.ring, out),
+        Err(refusal) => print_refused(rt, refusal as u8, out),
     }
 }
 
+// kept: a main shared with the other programs of a file would take a name, a buffer and a closure, in as many lines
 fn main(rt: HostRuntime) {
     let mut file = [0u8; 8196];
-    let input = reading::read_file(&mut rt.stdin(), &mut file);
-    if input.failed {
+    let Ok(size) = reading::read_file(&mut rt.stdin(), &mut file) else {
         let _ = rt.eprintln("ringcuts: standard input cannot be read");
         return;
-    }
-    let size = input.size;
+    };
     let mut out = [0u8; 540775];
-    if !print_file(&rt, &file[..size], &mut out) {
+    if print_file(&rt, &file[..size], &mut out).is_err() {
         let _ = rt.eprintln("ringcuts: standard output cannot be written");
     }
 }

@@ -6,7 +6,9 @@
 ghost use Rattle.std.specs.Prelude.{◌≤◌, length};
 ghost use Rattle.model.specs.Text.{line_room};
 
-use model::{BookingAnswer, Outcome, RingState, StateAnswer};
+use model::{BookingAnswer, RingState, StateAnswer};
+use reading::Failed;
+use std::io;
 use std::io::Read;
 
 // What a call gives but for the choices: its outcome and the ring state.
@@ -27,20 +29,20 @@ fn answer_of(state: RingState, case: &[u8; 194]) -> BookingAnswer {
     }
 }
 
-// Prints the figures of a ring of n, or the refusal; false where they could not be written, as everywhere here.
-fn print_answer(rt: &impl Print, n: u8, answer: BookingAnswer, out: &mut [u8]) -> bool
+// Prints the figures of a ring of n, or the refusal.
+fn print_answer(rt: &impl Print, n: u8, answer: BookingAnswer, out: &mut [u8]) -> io::Result<()>
     requires { (n ≤ 20) × (line_room ≤ length out.old) }
 {
     let outcome = answer.outcome;
     let load = answer.state.load;
     match outcome {
-        Outcome::Served => {
+        Ok(()) => {
             let length = loadlines::figures_line(n, load, out);
-            rt.write_all(&out[..length]).is_ok()
+            rt.write_all(&out[..length])
         }
-        Outcome::Refused(number) => {
-            let length = heads::refused_text(number, out);
-            rt.write_all(&out[..length]).is_ok()
+        Err(refusal) => {
+            let length = heads::refused_text(refusal as u8, out);
+            rt.write_all(&out[..length])
         }
     }
 }
@@ -52,51 +54,56 @@ fn print_calls<R: Read>(
     n: u8,
     started: RingState,
     out: &mut [u8],
-) -> bool
+) -> io::Result<()>
     requires { (n ≤ 20) × (line_room ≤ length out.old) }
 {
     let mut state = started;
     for _ in 1..10000usize {
         let mut case = [0u8; 194];
-        let got = reading::read_full(source, &mut case).size;
-        if got < 194 {
-            if 0 < got {
+        match reading::read_full(source, &mut case) {
+            Ok(194) => {}
+            Ok(0) | Err(Failed { size: 0 }) => break,
+            _ => {
                 let _ = rt.eprintln("ringload: the last call is broken off");
+                break;
             }
-            break;
         }
         let answer = answer_of(state, &case);
-        if !print_answer(rt, n, answer, out) {
-            return false;
-        }
+        print_answer(rt, n, answer, out)?;
         state = answer.state;
     }
-    true
+    Ok(())
 }
 
 // The start and the calls, or the refusal of n.
-fn print_ring<R: Read>(rt: &(impl Print + Eprint), source: &mut R, n: u8, out: &mut [u8]) -> bool
+fn print_ring<R: Read>(
+    rt: &(impl Print + Eprint),
+    source: &mut R,
+    n: u8,
+    out: &mut [u8],
+) -> io::Result<()>
     requires { line_room ≤ length out.old }
 {
     if components::size_outside(n) {
         let length = heads::refused_text(2, out);
-        return rt.write_all(&out[..length]).is_ok();
+        return rt.write_all(&out[..length]);
     }
     let mut sheet = [0u8; 122];
     let answer = without_choices(control::start(n, &mut sheet));
     let state = answer.state;
-    print_answer(rt, n, answer, out) && print_calls(rt, source, n, state, out)
+    print_answer(rt, n, answer, out)?;
+    print_calls(rt, source, n, state, out)
 }
 
 fn main(rt: HostRuntime) {
     let mut first = [0u8; 1];
     let mut stdin = rt.stdin();
-    if reading::read_full(&mut stdin, &mut first).size < 1 {
+    if reading::read_full(&mut stdin, &mut first) != Ok(1) {
         let _ = rt.eprintln("ringload: standard input is empty");
         return;
     }
     let mut out = [0u8; 553];
-    if !print_ring(&rt, &mut stdin, first[0], &mut out) {
+    if print_ring(&rt, &mut stdin, first[0], &mut out).is_err() {
         let _ = rt.eprintln("ringload: standard output cannot be written");
     }
 }

@@ -1,5 +1,5 @@
 -- A value stored at a number of an array, and the health and the locks after a word.
-use Rattle.std.specs.Prelude.{◌≡◌, refl, Bool, true, false, ◌⊎◌, ◌≢◌, List, ℕ, suc, ◌≤◌, ◌<◌, eqb, length, set}
+use Rattle.std.specs.Prelude.{◌≡◌, refl, Bool, true, false, ◌⊎◌, ◌≢◌, List, [], ◌∷◌, ℕ, zero, suc, ◌-◌, ◌≤◌, ◌<◌, eqb, length, set}
 use Rattle.std.proofs.Math.Path.{sym, ap}
 use Rattle.std.proofs.Common.{◌∙◌, inl, inr, arith, length-set, get_or-set_same, get_or-set_other}
 use Rattle.std.proofs.Math.Bool.{cond}
@@ -35,6 +35,32 @@ module _ {A : Type 0} (d : A) (l : List A) (v : A) (full : length l ≡ largest)
       at : (i : ℕ) → i < largest → (i ≡ j) ⊎ (i ≢ j) → get_or (set l j v) i d ≡ with_value d l k v i
       at i b (inl f) = rw (f, eq-eqb (suc j) k e) (get_or-set_same l j v d (omega arith))
       at i b (inr f) = rw (ne_eqb (suc i) k (λ z. f (omega arith))) (get_or-set_other l j i v d f)
+
+-- an array once a value is stored at a number, from 1; at a number of no place nothing is
+unfoldable pub stored : {A : Type 0} → List A → ℕ → A → List A
+stored l zero v = l
+stored l (suc i) v = set l i v
+
+pub stored_at : {A : Type 0} (l : List A) (k : ℕ) (v : A) → 1 ≤ k → set l (k - 1) v ≡ stored l k v
+unfolding stored
+stored_at l zero v h = absurd (omega arith)
+stored_at l (suc i) v h = let e : suc i - 1 ≡ i = omega arith in rw e
+
+set_beyond : {A : Type 0} (l : List A) (i : ℕ) (v : A) → (i < length l → ⊥) → set l i v ≡ l
+set_beyond [] i v h = refl
+set_beyond (x ∷ xs) zero v h = absurd (h (omega arith))
+set_beyond (x ∷ xs) (suc i) v h = ap (λ r. x ∷ r) (set_beyond xs i v (λ b. h (omega arith)))
+
+pub stored_nowhere : {A : Type 0} (l : List A) (k : ℕ) (v : A) → (1 ≤ k → k ≤ length l → ⊥) → l ≡ stored l k v
+unfolding stored
+stored_nowhere l zero v h = refl
+stored_nowhere l (suc i) v h = sym (set_beyond l i v (λ b. h (omega arith) (omega arith)))
+
+-- .. it holds the value at its index
+pub stored_places : {A : Type 0} (d : A) (l : List A) (k : ℕ) (v : A) → length l ≡ largest → stored l k v ≡ places (with_value d l k v)
+unfolding stored
+stored_places d l zero v full = no_place d l v full zero (λ a b. absurd (omega arith))
+stored_places d l (suc i) v full = at_place d l v full (suc i) i refl
 
 -- ---- "Neither lock nor health alters the other" (document 02, Note 7)
 
@@ -85,11 +111,16 @@ module _ (h : Health) (sized : Sized h) where
       ))
 
   -- a breaker's lock is no generator's
-  pub lock_of_breaker : (p : Part) (k : ℕ) (v : Bool) → (p ≡ GeneratorBreaker k) ⊎ (p ≡ BusBreaker k)
+  lock_of_breaker : (p : Part) (k : ℕ) (v : Bool) → (p ≡ GeneratorBreaker k) ⊎ (p ≡ BusBreaker k)
       → h ≡ health_places (with_lock (health_of h) p v)
   unfolding with_lock health_places health_of same_part
   lock_of_breaker p k v (inl e) = rw e (health_held h sized)
   lock_of_breaker p k v (inr e) = rw e (health_held h sized)
+
+  pub lock_of_other : (p : Part) (v : Bool) → ((k : ℕ) → p ≡ Generator k → ⊥) → h ≡ health_places (with_lock (health_of h) p v)
+  lock_of_other (Generator k) v ne = absurd (ne k refl)
+  lock_of_other (GeneratorBreaker k) v ne = lock_of_breaker (GeneratorBreaker k) k v (inl refl)
+  lock_of_other (BusBreaker k) v ne = lock_of_breaker (BusBreaker k) k v (inr refl)
 
 -- ---- the health and the locks after a report
 

@@ -2,42 +2,25 @@
 // paper's numbers, from 1; places are indices from 0.
 #![tactic(auto)]
 
-ghost use Rattle.std.specs.Prelude.{◌≡◌, false};
+ghost use Rattle.std.specs.Prelude.{◌≡◌};
 ghost use Rattle.model.specs.Values.{refusal_number};
-ghost use Rattle.model.specs.Reports.{places, health_of, health_places, reported, blank_ring, told as told_ring};
+ghost use Rattle.model.specs.Reports.{health_of, health_places, reported, blank_ring, told as told_ring};
 ghost use Rattle.model.specs.Answers.{refused_answer};
 ghost use Rattle.model.specs.Bookings.{no_load};
-ghost use Rattle.rings.specs.Words.{with_value, with_health, with_lock};
+ghost use Rattle.rings.specs.Words.{stored, with_health, with_lock};
 
 use model::{
     Booking, BusChoice, Choice, Commands, Health, Load, Part, Refusal, Report, Ring, RingAnswer,
     Word,
 };
 
-// The array with a value at a number, from 1; a number of no place changes nothing.
-fn with_value(values: [u8; 20], number: u8, value: u8) -> [u8; 20]
-    ensures { result ≡ places (with_value 0 values number value) }
+// Stores a value at a number of an array, from 1; a number of no place changes nothing.
+fn store<T: Copy>(values: &mut [T], number: u8, value: T)
+    ensures { values.new ≡ stored values.old «number» value }
 {
-    if number < 1 || 20 < number {
-        return values;
+    if 1 <= number && number as usize <= values.len() {
+        values[(number - 1) as usize] = value;
     }
-    let i = (number - 1) as usize;
-    let mut next = values;
-    next[i] = value;
-    next
-}
-
-// The same for the locks, a generator's at its number.
-fn with_lock_at(locked: [bool; 20], number: u8, lock: bool) -> [bool; 20]
-    ensures { result ≡ places (with_value false locked number lock) }
-{
-    if number < 1 || 20 < number {
-        return locked;
-    }
-    let g = (number - 1) as usize;
-    let mut next = locked;
-    next[g] = lock;
-    next
 }
 
 // A part's health after a word about it; every lock is kept.
@@ -46,25 +29,11 @@ fn with_health(health: Health, part: Part, value: u8) -> Health
 {
     let mut next = health;
     match part {
-        Part::Generator(number) => {
-            let generators = next.generators;
-            let reported = with_value(generators, number, value);
-            next.generators = reported;
-            next
-        }
-        Part::GeneratorBreaker(number) => {
-            let generator_breakers = next.generator_breakers;
-            let reported = with_value(generator_breakers, number, value);
-            next.generator_breakers = reported;
-            next
-        }
-        Part::BusBreaker(number) => {
-            let bus_breakers = next.bus_breakers;
-            let reported = with_value(bus_breakers, number, value);
-            next.bus_breakers = reported;
-            next
-        }
+        Part::Generator(number) => store(&mut next.generators, number, value),
+        Part::GeneratorBreaker(number) => store(&mut next.generator_breakers, number, value),
+        Part::BusBreaker(number) => store(&mut next.bus_breakers, number, value),
     }
+    next
 }
 
 // A generator's lock after a word about it; every health is kept. A breaker has no lock.
@@ -72,16 +41,10 @@ fn with_lock(health: Health, part: Part, lock: bool) -> Health
     ensures { result ≡ health_places (with_lock (health_of health) part lock) }
 {
     let mut after = health;
-    match part {
-        Part::Generator(number) => {
-            let locked = after.locked;
-            let reported = with_lock_at(locked, number, lock);
-            after.locked = reported;
-            after
-        }
-        Part::GeneratorBreaker(_) => after,
-        Part::BusBreaker(_) => after,
+    if let Part::Generator(number) = part {
+        store(&mut after.locked, number, lock);
     }
+    after
 }
 
 // "The last word decides; one that repeats the present health is accepted." "Neither lock nor health alters the other: a replaced set that is

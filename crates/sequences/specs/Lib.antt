@@ -1,3 +1,4 @@
 -- The laws of the closing phase's codes.
 pub mod Marks
 pub mod Outward
+pub mod Listing

@@ -3,7 +3,7 @@
 // Buses, generators and bus breakers are indices from 0; a choice has a generator's number, from 1.
 #![tactic(auto)]
 
-ghost use Rattle.std.specs.Prelude.{◌≡◌, [], ◌∷◌, map, ◌+◌, ◌≤◌, ◌<◌, length};
+ghost use Rattle.std.specs.Prelude.{◌≡◌, [], ◌∷◌, map, ◌≤◌, ◌<◌, length};
 ghost use Rattle.model.specs.Values.{part_code};
 ghost use Rattle.model.specs.Priority.{path_parts};
 ghost use Rattle.model.specs.Sheet.{closing as closing_phase};
@@ -13,7 +13,7 @@ ghost use Rattle.model.specs.Laws.Choosing.{Inside, AllInside};
 ghost use Rattle.theory.specs.Proofs.Paths.{path_to};
 ghost use Rattle.walks.specs.Walk.{outward};
 ghost use Rattle.paths.specs.Search.{path_found};
-ghost use Rattle.sequences.specs.Marks.{fresh, Listed, Holds};
+ghost use Rattle.sequences.specs.Marks.{Holds};
 ghost use Rattle.sequences.specs.Outward.{named_path, named_paths, breaker_codes, path_codes};
 
 use model::{BusChoice, Choice, Commands};
@@ -34,63 +34,6 @@ fn commanded(commands: Commands) -> [bool; 84]
         passed[64 + i] = bus_breakers[i];
     }
     passed
-}
-
-// Lists a part unless it is to be passed over: "a part only where it first comes". Answers the place behind the codes.
-fn list_part(code: usize, passed: &mut [bool; 84], codes: &mut [u8; 60], end: usize) -> usize
-    requires named { code < 84 }
-    requires room { end + length (fresh passed.old (code ∷ [])) ≤ 60 }
-    ensures { Listed (code ∷ []) passed.old codes.old end passed.new codes.new result }
-{
-    if passed[code] {
-        return end;
-    }
-    passed[code] = true;
-    codes[end] = code as u8;
-    end + 1
-}
-
-// Lists the bus breakers of a path, "from the generator's bus outward".
-fn list_breakers(
-    n: usize,
-    g: usize,
-    rising: bool,
-    steps: usize,
-    passed: &mut [bool; 84],
-    codes: &mut [u8; 60],
-    end: usize,
-) -> usize
-    requires ring { (g < n) × (n ≤ 20) }
-    requires room { end + length (fresh passed.old (breaker_codes (outward n rising g steps))) ≤ 60 }
-    ensures { Listed (breaker_codes (outward n rising g steps))
-        passed.old codes.old end passed.new codes.new result }
-{
-    let mut behind = end;
-    for i in Outward::new(n, g, rising, steps) {
-        behind = list_part(64 + i, passed, codes, behind);
-    }
-    behind
-}
-
-// Lists the parts of a path: "generator, generator breaker, then bus breakers from the generator's bus outward".
-fn list_path(
-    n: usize,
-    b: usize,
-    path: Path,
-    passed: &mut [bool; 84],
-    codes: &mut [u8; 60],
-    end: usize,
-) -> usize
-    requires ring { (b < n) × (path.source < n) × (n ≤ 20) }
-    requires room { end + length (fresh passed.old (map part_code (path_parts n (path_to b path.source path.rising)))) ≤ 60 }
-    ensures { Listed (map part_code (path_parts n (path_to b path.source path.rising)))
-        passed.old codes.old end passed.new codes.new result }
-{
-    let Path { source: g, rising } = path;
-    let generator_end = list_part(g, passed, codes, end);
-    let breaker_end = list_part(32 + g, passed, codes, generator_end);
-    let span = paths::span_of(n, b, g, rising);
-    list_breakers(n, g, rising, span.steps, passed, codes, breaker_end)
 }
 
 // The path that a choice names.
@@ -117,23 +60,64 @@ fn named(n: usize, b: usize, choice: Choice) -> Option<Path>
     }
 }
 
-// Lists the parts of a bus's path, none where it is dark.
-fn list_bus(
-    n: usize,
-    b: usize,
-    choice: Choice,
-    passed: &mut [bool; 84],
-    codes: &mut [u8; 60],
+// What is listed: by part code, 0 to 83, the parts to be passed over; and the codes, up to the place behind the last.
+#[derive(Drop)]
+struct Listing {
+    passed: [bool; 84],
+    codes: [u8; 60],
     end: usize,
-) -> usize
-    requires ring { (b < n) × (n ≤ 20) × Inside n choice }
-    requires room { end + length (fresh passed.old (path_codes n (named_path n b choice))) ≤ 60 }
-    ensures { Listed (path_codes n (named_path n b choice))
-        passed.old codes.old end passed.new codes.new result }
-{
-    match named(n, b, choice) {
-        None => end,
-        Some(path) => list_path(n, b, path, passed, codes, end),
+}
+
+impl Listing {
+    ghost use Rattle.sequences.specs.Listing.{ListedIn, HasRoom};
+
+    // Lists a part unless it is to be passed over: "a part only where it first comes".
+    fn list_part(&mut self, code: usize)
+        requires named { code < 84 }
+        requires room { HasRoom (code ∷ []) self.old }
+        ensures { ListedIn (code ∷ []) self.old self.new }
+    {
+        if self.passed[code] {
+            return;
+        }
+        self.passed[code] = true;
+        self.codes[self.end] = code as u8;
+        self.end += 1;
+    }
+
+    // Lists the bus breakers of a path, "from the generator's bus outward".
+    fn list_breakers(&mut self, n: usize, g: usize, rising: bool, steps: usize)
+        requires ring { (g < n) × (n ≤ 20) }
+        requires room { HasRoom (breaker_codes (outward n rising g steps)) self.old }
+        ensures { ListedIn (breaker_codes (outward n rising g steps)) self.old self.new }
+    {
+        for i in Outward::new(n, g, rising, steps) {
+            self.list_part(64 + i);
+        }
+    }
+
+    // Lists the parts of a path: "generator, generator breaker, then bus breakers from the generator's bus outward".
+    fn list_path(&mut self, n: usize, b: usize, path: Path)
+        requires ring { (b < n) × (path.source < n) × (n ≤ 20) }
+        requires room { HasRoom (map part_code (path_parts n (path_to b path.source path.rising))) self.old }
+        ensures { ListedIn (map part_code (path_parts n (path_to b path.source path.rising))) self.old self.new }
+    {
+        let Path { source: g, rising } = path;
+        self.list_part(g);
+        self.list_part(32 + g);
+        let span = paths::span_of(n, b, g, rising);
+        self.list_breakers(n, g, rising, span.steps);
+    }
+
+    // Lists the parts of a bus's path, none where it is dark.
+    fn list_bus(&mut self, n: usize, b: usize, choice: Choice)
+        requires ring { (b < n) × (n ≤ 20) × Inside n choice }
+        requires room { HasRoom (path_codes n (named_path n b choice)) self.old }
+        ensures { ListedIn (path_codes n (named_path n b choice)) self.old self.new }
+    {
+        if let Some(path) = named(n, b, choice) {
+            self.list_path(n, b, path);
+        }
     }
 }
 
@@ -155,15 +139,18 @@ pub fn closing(
     if count == 0 {
         return;
     }
-    let mut passed = commanded(old);
-    let mut end = 0;
+    let mut listing = Listing {
+        passed: commanded(old),
+        codes: *codes,
+        end: 0,
+    };
     for b in 0..n {
         // What is listed is a prefix of the phase: when it is as long, it is the phase.
-        if end == count {
-            return;
+        if listing.end == count {
+            break;
         }
         let bus = choices[b];
-        let choice = bus.choice;
-        end = list_bus(n, b, choice, &mut passed, codes, end);
+        listing.list_bus(n, b, bus.choice);
     }
+    *codes = listing.codes;
 }

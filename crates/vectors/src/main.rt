@@ -6,15 +6,14 @@ ghost use Rattle.model.specs.Text.{line_room};
 
 use std::io;
 use std::io::Read;
-use tally::Tally;
 
 // Whether the next stored bytes are ours.
 fn next_is<R: Read>(stored: &mut R, ours: &[u8], expected: &mut [u8]) -> bool
     requires { length ours.now ≤ length expected.old }
 {
     let size = ours.len();
-    let got = reading::read_full(stored, &mut expected[..size]).size;
-    got == size && check::same(ours, &expected[..size])
+    let expected = &mut expected[..size];
+    reading::read_full(stored, expected) == Ok(size) && *ours == *expected
 }
 
 // Whether the run of a file is the stored one.
@@ -34,13 +33,6 @@ fn run_agrees<R: Read>(stored: &mut R, file: &[u8], out: &mut [u8], expected: &m
     same
 }
 
-// A file's size, low byte first.
-fn size_of(low: u8, high: u8) -> usize
-    ensures { result < 65536 }
-{
-    low as usize + 256 * (high as usize)
-}
-
 // A case: the file, and behind it the text. A text that is longer or shorter than ours is found by the mark behind it.
 fn agrees<R: Read>(stored: &mut R, size: usize) -> bool
     requires { size < 65536 }
@@ -48,25 +40,15 @@ fn agrees<R: Read>(stored: &mut R, size: usize) -> bool
     let mut file = [0u8; 65536];
     let mut out = [0u8; 65536];
     let mut expected = [0u8; 65536];
-    let mut mark = [1u8; 1];
-    let got = reading::read_full(stored, &mut file[..size]).size;
+    let mut mark = [0u8; 1];
+    let got = reading::read_full(stored, &mut file[..size]);
     let same = run_agrees(stored, &file[..size], &mut out, &mut expected);
-    reading::read_full(stored, &mut mark);
-    got == size && same && mark[0] == 0
+    let marked = reading::read_full(stored, &mut mark) == Ok(1);
+    got == Ok(size) && same && marked && mark[0] == 0
 }
 
 fn main(rt: HostRuntime) -> io::Result<()> {
-    let mut stored = tally::stored(&rt)?;
-    let mut tally = Tally {
-        cases: 0,
-        differ: 0,
-    };
-    for _ in 0..100000usize {
-        let mut size = [0u8; 2];
-        if reading::read_full(&mut stored, &mut size).size < 2 {
-            break;
-        }
-        tally = tally::counted(tally, agrees(&mut stored, size_of(size[0], size[1])));
-    }
-    tally::print(&rt, tally)
+    tally::run(&rt, &mut [0u8; 2], |stored, size| {
+        agrees(stored, u16::from_le_bytes([size[0], size[1]]) as usize)
+    })
 }

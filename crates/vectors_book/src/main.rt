@@ -2,12 +2,15 @@
 // of a case.
 #![tactic(auto)]
 
+ghost use Rattle.std.specs.Prelude.{◌≡◌, length};
+
 use model::BookingAnswer;
 use std::io;
-use tally::Tally;
 
 // The case's call.
-fn answer_of(case: &[u8; 1357]) -> BookingAnswer {
+fn answer_of(case: &[u8]) -> BookingAnswer
+    requires { length case.now ≡ 1357 }
+{
     let state = loads::state_at(case, case[0], 1);
     if case[674] == 1 {
         return control::cancel(state, loads::number_at(case, 675));
@@ -16,22 +19,12 @@ fn answer_of(case: &[u8; 1357]) -> BookingAnswer {
 }
 
 // Whether the whole answer is the simulation's.
-fn agrees(case: &[u8; 1357]) -> bool {
+fn agrees(case: &[u8]) -> bool
+    requires { length case.now ≡ 1357 }
+{
     answers::same_booking(answer_of(case), case, 682)
 }
 
 fn main(rt: HostRuntime) -> io::Result<()> {
-    let mut stored = tally::stored(&rt)?;
-    let mut tally = Tally {
-        cases: 0,
-        differ: 0,
-    };
-    for _ in 0..100000usize {
-        let mut case = [0u8; 1357];
-        if reading::read_full(&mut stored, &mut case).size < 1357 {
-            break;
-        }
-        tally = tally::counted(tally, agrees(&case));
-    }
-    tally::print(&rt, tally)
+    tally::run(&rt, &mut [0u8; 1357], |_file, case| agrees(case))
 }

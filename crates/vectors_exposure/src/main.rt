@@ -2,16 +2,16 @@
 // against the simulation's answers: see tests/make_vectors.py for the layout of a case.
 #![tactic(auto)]
 
-ghost use Rattle.std.specs.Prelude.{not, T};
+ghost use Rattle.std.specs.Prelude.{◌≡◌, length, not, T};
 ghost use Rattle.std.specs.Float.Ieee.{is_nan};
 
 use model::Exposure;
 use std::io;
-use tally::Tally;
 
 // Whether the figures are the simulation's: "Bits must equal this recipe's." Of a NaN none could be told; no answer has one.
-fn same_figures(case: &[u8; 1234], figures: Exposure) -> bool
-    requires { T (not (is_nan figures.sum)) × T (not (is_nan figures.largest)) }
+fn same_figures(case: &[u8], figures: Exposure) -> bool
+    requires size { length case.now ≡ 1234 }
+    requires numbers { T (not (is_nan figures.sum)) × T (not (is_nan figures.largest)) }
 {
     figures.count == loads::number_at(case, 1216)
         && f64::to_bits(figures.sum) == datasheets::bits_at(case, 1218)
@@ -19,7 +19,9 @@ fn same_figures(case: &[u8; 1234], figures: Exposure) -> bool
 }
 
 // Whether the whole answer to a case's call is the simulation's.
-fn agrees(case: &[u8; 1234]) -> bool {
+fn agrees(case: &[u8]) -> bool
+    requires { length case.now ≡ 1234 }
+{
     let state = loads::state_at(case, case[0], 1);
     let answer = exposure::of_bus(state, case[674], datasheets::rates_at(case, 675));
     let outcome = answer.outcome;
@@ -27,17 +29,5 @@ fn agrees(case: &[u8; 1234]) -> bool {
 }
 
 fn main(rt: HostRuntime) -> io::Result<()> {
-    let mut stored = tally::stored(&rt)?;
-    let mut tally = Tally {
-        cases: 0,
-        differ: 0,
-    };
-    for _ in 0..100000usize {
-        let mut case = [0u8; 1234];
-        if reading::read_full(&mut stored, &mut case).size < 1234 {
-            break;
-        }
-        tally = tally::counted(tally, agrees(&case));
-    }
-    tally::print(&rt, tally)
+    tally::run(&rt, &mut [0u8; 1234], |_file, case| agrees(case))
 }

@@ -1,9 +1,10 @@
 // Stored reckonings, held against the simulation's answers: see tests/make_vectors.py for the layout of a case.
 #![tactic(auto)]
 
+ghost use Rattle.std.specs.Prelude.{◌≡◌, length};
+
 use model::{BusFeed, Feed, FeedsAnswer};
 use std::io;
-use tally::Tally;
 
 // Whether a bus's answer is the three bytes: 0 dark, 1 fed, 2 a clash, and the generators named.
 fn same_feed(bus: BusFeed, kind: u8, first: u8, second: u8) -> bool {
@@ -16,7 +17,9 @@ fn same_feed(bus: BusFeed, kind: u8, first: u8, second: u8) -> bool {
 }
 
 // Whether the buses have the answers of the case, three bytes each.
-fn same_feeds(answer: FeedsAnswer, case: &[u8; 202]) -> bool {
+fn same_feeds(answer: FeedsAnswer, case: &[u8]) -> bool
+    requires { length case.now ≡ 202 }
+{
     let buses = answer.buses;
     let mut same = true;
     for b in 0..20 {
@@ -27,7 +30,9 @@ fn same_feeds(answer: FeedsAnswer, case: &[u8; 202]) -> bool {
 }
 
 // Whether the reckoning of the case is the simulation's.
-fn agrees(case: &[u8; 202]) -> bool {
+fn agrees(case: &[u8]) -> bool
+    requires { length case.now ≡ 202 }
+{
     let health = cases::health_at(case, 1);
     let commands = cases::commands_at(case, 81);
     let answer = plant::feeds(case[0], health, commands);
@@ -36,17 +41,5 @@ fn agrees(case: &[u8; 202]) -> bool {
 }
 
 fn main(rt: HostRuntime) -> io::Result<()> {
-    let mut stored = tally::stored(&rt)?;
-    let mut tally = Tally {
-        cases: 0,
-        differ: 0,
-    };
-    for _ in 0..100000usize {
-        let mut case = [0u8; 202];
-        if reading::read_full(&mut stored, &mut case).size < 202 {
-            break;
-        }
-        tally = tally::counted(tally, agrees(&case));
-    }
-    tally::print(&rt, tally)
+    tally::run(&rt, &mut [0u8; 202], |_file, case| agrees(case))
 }

@@ -48,6 +48,7 @@ pub fn bus_beside(n: usize, k: usize, rising: bool) -> usize
 }
 
 // Whether a bus of this owner may be connected to the generator of this number.
+// kept: 0 for no owner, since the clauses of `clear`, `spread` and `paths::search` read the owners as numbers
 pub fn free(owner: u8, number: u8) -> bool
     ensures { result ≡ may_connect owner number }
 {

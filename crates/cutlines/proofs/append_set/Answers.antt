@@ -1,19 +1,15 @@
 -- `append_set`: the parts before the first unused byte follow one another.
 use native.Mathlib.Omega.{arith}
-use lib.ListN.{length-set}
 use Rattle.model.specs.Text.{ascii}
 use Rattle.model.specs.Laws.Tests.{facts}
-use Rattle.model.specs.Laws.Appended.{appended_two, appended_more}
+use Rattle.model.specs.Laws.Appended.{appended_more}
 use Rattle.cutlines.specs.Sets.{line_none, line_one, line_two, line_three, name_before_end}
 use Rattle.cutlines.proofs.append_set.Goals as goal
-
-pub bounds-out-at-then-a-eq255 : goal.bounds-out-at-then-a-eq255
-bounds-out-at-then-a-eq255 c = simp length-set (omega arith)
 
 pub returns-then-a-eq255 : goal.returns-then-a-eq255
 unfolding ascii
 returns-then-a-eq255 c =
-    rw (line_none c.args.a c.args.b c.args.c (omega (arith, facts))) (appended_two _ _ _ _)
+    rw (line_none c.args.a c.args.b c.args.c (omega (arith, facts))) c.append.ensures
 
 pub returns-then-b-eq255 : goal.returns-then-b-eq255
 returns-then-b-eq255 c =

@@ -6,17 +6,17 @@ use Rattle.figures.proofs.with_figures.Goals as goal
 use Rattle.figures.proofs.with_figures.Goals.{In-loop-booking, in-Dark, in-Own2}
 
 -- a turn of the loop
-turn : (c : In-loop-booking) → Turn c.args.choices c.live-booking-items.result.now c.loop-booking.booking-index
+turn : (c : In-loop-booking) → Turn c.args.choices c.live-live.result.now c.loop-booking.booking-index
 turn c = record {
-  ring = rw c.live-booking-items.ensures c.requires.ring;
-  few = rw c.live-booking-items.ensures (omega (arith, c.requires.live, length-take c.args.load.live c.args.load.bookings));
+  ring = rw c.live-live.ensures c.requires.ring;
+  few = rw c.live-live.ensures (omega (arith, c.requires.live, length-take c.args.load.live c.args.load.bookings));
   left = c.loop-booking-test.true;
 }
 
 pub loop-booking-init : goal.loop-booking-init
 loop-booking-init c = record {
-  fed = figures_none c.args.choices c.live-booking-items.result.now _ (omega arith);
-  dark = dark_none c.args.choices c.live-booking-items.result.now _ (omega arith);
+  fed = figures_none c.args.choices c.live-live.result.now _ (omega arith);
+  dark = dark_none c.args.choices c.live-live.result.now _ (omega arith);
 }
 
 pub overflow_sub-fed : goal.overflow_sub-fed
@@ -68,5 +68,5 @@ loop-booking-preserved c =
 
 pub returns : goal.returns
 returns c =
-    all_counted c.args.choices c.args.load _ _ c.loop-booking.booking-index c.live-booking-items.result.now c.live-booking-items.ensures
+    all_counted c.args.choices c.args.load _ _ c.loop-booking.booking-index c.live-live.result.now c.live-live.ensures
     c.loop-booking-test.false c.loop-booking.invariant.fed c.loop-booking.invariant.dark

@@ -5,6 +5,6 @@ use Rattle.figures.proofs.with_figures.Given as goal
 
 abbrev pub invariant-loop-booking : goal.invariant-loop-booking
 invariant-loop-booking l = record {
-  fed : l.watts ≡ figures_to l.choices l.booking-items l.booking-index;
-  dark : l.dark_watts ≡ dark_to l.choices l.booking-items l.booking-index;
+  fed : l.watts ≡ figures_to l.choices l.live l.booking-index;
+  dark : l.dark_watts ≡ dark_to l.choices l.live l.booking-index;
 }

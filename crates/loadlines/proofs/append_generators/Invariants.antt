@@ -1,7 +1,7 @@
 -- `append_generators`: after g turns the watts of the first g generators are stored.
 use mathlib.Core.Path.{◌≡◌}
 use mathlib.Core.List.{map}
-use Prim.Native.Nat.{◌+◌, ◌-◌, ◌*◌, ◌≤◌}
+use Prim.Native.Nat.{◌+◌, ◌*◌, ◌≤◌}
 use lib.ListN.{length}
 use Rattle.model.specs.Lists.{below}
 use Rattle.model.specs.Text.{joined}
@@ -11,7 +11,4 @@ use Rattle.loadlines.proofs.append_generators.Given as goal
 
 abbrev pub invariant-loop-g : goal.invariant-loop-g
 invariant-loop-g l =
-    Appended (joined (map (watts_text l.load) (below l.g))) l.initial.out l.at l.out l.end × (length l.out ≡ length l.initial.out) × (l.end ≤ l.at + 15 * l.g) × (l.g ≤ l.n)
-
-abbrev pub decreases-loop-g : goal.decreases-loop-g
-decreases-loop-g l = l.n - l.g
+    Appended (joined (map (watts_text l.fn.load) (below l.g))) l.initial.out l.at l.out l.end × (length l.out ≡ length l.initial.out) × (l.end ≤ l.at + 15 * l.g) × (l.g ≤ l.n)

@@ -27,7 +27,7 @@ one-left-out : (c : After-is_dark-in-loop-i) (t : Bool) → c.is_dark-in-loop-i.
     darkens c.args.n (health_of c.args.health) c.args.b (without c.loop-i.i (parts_of c.args.n c.args.set)) ≡ t
 one-left-out c t e =
     dark_without c.args.n (health_of c.args.health) c.args.b c.args.set c.loop-i.i c.loop-i-test.true
-    c.with_faults-before.ensures c.with_faults-others.ensures (sym c.is_dark-in-loop-i.ensures ∙ e) (omega arith) (omega arith)
+    c.with_faults-before.ensures c.with_faults-others.ensures (sym c.is_dark-in-loop-i.ensures ∙ e)
 
 pub returns-then-not-is_dark : goal.returns-then-not-is_dark
 returns-then-not-is_dark c = lit _ _ _ c.requires.0 _ (itself (goal.at.returns-then-not-is_dark c).After-is_dark false c.if-not-is_dark.true)

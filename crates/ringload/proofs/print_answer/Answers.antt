@@ -8,17 +8,17 @@ slice_bounds-write_all-end g c =
     let t = c.figures_line-length.ensures in
     stored_fits (record { bytes = t.bytes; sized = t.end })
 
-pub slice_bounds-write_all-end-in-Served : goal.slice_bounds-write_all-end-in-Served
-slice_bounds-write_all-end-in-Served g c =
+pub slice_bounds-write_all-end-in-Ok : goal.slice_bounds-write_all-end-in-Ok
+slice_bounds-write_all-end-in-Ok g c =
     let t = c.figures_line-length.ensures in
     sym (length-take-le _ _ (stored_fits (record { bytes = t.bytes; sized = t.end })))
 
-pub slice_bounds-write_all-end-in-Refused : goal.slice_bounds-write_all-end-in-Refused
-slice_bounds-write_all-end-in-Refused g c =
+pub slice_bounds-write_all-end-in-Err : goal.slice_bounds-write_all-end-in-Err
+slice_bounds-write_all-end-in-Err g c =
     let t = c.refused_text-length.ensures in
     stored_fits (record { bytes = t.bytes; sized = t.end })
 
-pub slice_bounds-write_all-end-in-Refused-2 : goal.slice_bounds-write_all-end-in-Refused-2
-slice_bounds-write_all-end-in-Refused-2 g c =
+pub slice_bounds-write_all-end-in-Err-2 : goal.slice_bounds-write_all-end-in-Err-2
+slice_bounds-write_all-end-in-Err-2 g c =
     let t = c.refused_text-length.ensures in
     sym (length-take-le _ _ (stored_fits (record { bytes = t.bytes; sized = t.end })))

@@ -1,5 +1,4 @@
 -- `rings::refused` meets its contract: both sides compute to 20 dark places.
-use mathlib.Core.Path.{refl}
 use Rattle.model.specs.Lists.{below}
 use Rattle.model.specs.Reports.{places}
 use Rattle.model.specs.Answers.{all_dark, refused_answer}

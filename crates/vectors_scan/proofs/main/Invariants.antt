@@ -1,6 +1,0 @@
--- Safe: no more cases are counted than turns are made.
-use Rattle.std.proofs.Common.{◌≤◌}
-use Rattle.vectors_scan.proofs.main.Given as goal
-
-abbrev pub invariant-loop : goal.invariant-loop
-invariant-loop l = (l.tally.cases ≤ l.counter) × (l.tally.differ ≤ l.counter)
