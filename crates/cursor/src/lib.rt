@@ -31,7 +31,8 @@ fn report_line(ring: Ring, file: &[u8], i: usize, out: &mut [u8]) -> Line
     let m = report_count(file);
     match reports::report_at(ring.n, &file[3..3 + m], &file[3 + m..], i) {
         Ok(Some(report)) => calls::step_line(ring, report, i + 1, out),
-        Ok(None) | Err(_) => Line { ring, length: 0 },
+        Ok(None) => Line { ring, length: 0 },
+        Err(_) => Line { ring, length: 0 },
     }
 }
 

@@ -14,7 +14,7 @@ header-length-requires c =
 pub returns-in-Err : goal.returns-in-Err
 returns-in-Err c =
     passed_refused _ (sym c.check_file.ensures.answer ∙ c.in-Err.is)
-    c.requires.0 (record { bytes = c.refused_text-length.ensures.bytes; sized = c.refused_text-length.ensures.end }) c.piece_of.ensures
+    c.requires.0 (rw (← c.refusal_number.ensures) (record { bytes = c.refused_text-length.ensures.bytes; sized = c.refused_text-length.ensures.end })) c.piece_of.ensures
 
 pub returns-in-Ok : goal.returns-in-Ok
 returns-in-Ok c =
