@@ -6,8 +6,9 @@ use Rattle.std.proofs.Math.Bool.{Bool}
 use mathlib.Core.List.Memᴰ
 use mathlib.Core.List.{List, [], ◌∷◌, ◌++◌, map, flat_map, foldl, foldl-append, map-append}
 use Rattle.std.proofs.Math.Option.{none}
-use Prim.Native.Nat.{ℕ, suc, ◌+◌, ◌*◌, ◌<◌}
-use Rattle.std.proofs.Math.ListN.{length, length-map, get_or-append}
+use Prim.Native.Nat.{ℕ, suc, ◌+◌, ◌*◌, ◌≤◌, ◌<◌}
+use Rattle.std.proofs.Math.ListN.{length, take, drop, length-map, get_or-append}
+use Rattle.std.proofs.lemmas.List.{get_or-drop, length-drop}
 use Rattle.std.specs.Float.{binary64}
 use Rattle.std.specs.Float.Ieee.{add, mul, lt}
 use Rattle.model.specs.declared.Part.{Part}
@@ -31,9 +32,10 @@ use Rattle.model.specs.Exposure.{
   unrated_listed,
   no_exposure,
 }
-use Rattle.model.specs.Laws.Lists.{at_in, below_in, below_length, map_index, any_in, any_ext, any_map, any_flat, any_below}
+use Rattle.model.specs.Laws.Lists.{at_in, below_length, map_index, any_ext, any_map, any_flat}
 use Rattle.model.specs.Laws.Reports.{named_code}
 use Rattle.model.specs.Laws.CutSets.{bytes_count, behind_count, sheet_byte, Few}
+use Rattle.components.specs.Searches.{any_first}
 use Rattle.exposure.specs.Bytes.{times_code, product_of, product_at, unrated_code, with_product, figures_of, unrated_bytes}
 
 -- ---- one set
@@ -106,19 +108,13 @@ module _ (r : Rates) where
   figures_more sheet i at z d e =
       rw (add-one, map-append, d, e, z) (sym (foldl-append with_product no_exposure (map (λ j. product_at r sheet (2 + 3 * j)) (below i)) _))
 
-  pub unrated_none : (sheet : List ℕ) → unrated_bytes r sheet 0 ≡ false
-  unfolding unrated_bytes below any_of
-  unrated_none sheet = refl
-
-  pub unrated_more : (sheet : List ℕ) (i at : ℕ) → at ≡ 2 + i → unrated_bytes r sheet i ≡ false → unrated_code r (get_or sheet at 0) ≡ false
-      → unrated_bytes r sheet (i + 1) ≡ false
+  -- the bytes behind the count
+  pub unrated_behind : (sheet : List ℕ) (k : ℕ) → 2 + k ≤ length sheet
+      → unrated_bytes r sheet k ≡ any_of (unrated_code r) (take k (drop 2 sheet))
   unfolding unrated_bytes
-  unrated_more sheet i at z e f = sym (any_below (λ j. unrated_code r (get_or sheet (2 + j) 0)) i (sym e)) ∙ rw z at f
-
-  pub unrated_some : (sheet : List ℕ) (k i at : ℕ) → at ≡ 2 + i → i < k → unrated_code r (get_or sheet at 0) ≡ true
-      → unrated_bytes r sheet k ≡ true
-  unfolding unrated_bytes
-  unrated_some sheet k i at z l e = any_in (λ j. unrated_code r (get_or sheet (2 + j) 0)) (below_in k i l) (rw z at e)
+  unrated_behind sheet k h =
+      any_ext _ (λ i. unrated_code r (get_or (drop 2 sheet) i 0)) (below k) (λ i m. ap (unrated_code r) (sym (get_or-drop 2 sheet i 0)))
+      ∙ any_first (unrated_code r) (drop 2 sheet) 0 k (omega (arith, length-drop 2 sheet))
 
 -- "gives way only to a greater product"
 module _ (x p : Float) where

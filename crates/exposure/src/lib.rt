@@ -98,12 +98,9 @@ fn unrated_listed(rates: Rates, sheet: &[u8], count: usize) -> bool
     requires { (count ≤ 36051) × (2 + 3 * count ≤ length sheet.now) }
     ensures { result ≡ unrated_bytes rates sheet.now (3 * count) }
 {
-    for i in 0..3 * count {
-        if unrated_code(rates, sheet[2 + i]) {
-            return true;
-        }
-    }
-    false
+    sheet[2..2 + 3 * count]
+        .iter()
+        .any(|code| unrated_code(rates, *code))
 }
 
 // "Each has its number as the answer", and "any figure beside the record 0".

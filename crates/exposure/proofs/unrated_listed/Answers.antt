@@ -1,29 +1,14 @@
--- `exposure::unrated_listed` meets its contract. The loop's invariant: no byte passed is an unrated part's code.
-use mathlib.Core.Path.{◌≡◌, sym, ◌∙◌, ap}
-use Prim.Native.Nat.{◌*◌}
-use native.Mathlib.Omega.{arith}
-use borrow.Author.Rules.{rules}
-use Rattle.exposure.specs.Bytes.{unrated_bytes}
-use Rattle.exposure.proofs.Sets.{unrated_none, unrated_more, unrated_some}
+-- `exposure::unrated_listed` meets its contract: the test of the bytes behind the count.
+use Rattle.std.proofs.Common.{◌∙◌, ◌*◌, rules, tests, sym, arith, take, drop}
+use Rattle.std.proofs.lemmas.Iterator.{YieldsList-from_slice}
+use Rattle.std.proofs.lemmas.Iterator.Search.{any_from_yields_List}
+use Rattle.components.specs.Searches.{any_listed}
+use Rattle.exposure.specs.Bytes.{unrated_code}
+use Rattle.exposure.proofs.Sets.{unrated_behind}
 use Rattle.exposure.proofs.unrated_listed.Goals as goal
 
-pub loop-i-init : goal.loop-i-init
-loop-i-init c = (unrated_none _ _, search rules)
-
-pub returns-then-unrated_code : goal.returns-then-unrated_code
-returns-then-unrated_code c =
-    sym (unrated_some _ _ _ c.loop-i.i _ (omega arith) (search rules) (sym c.unrated_code.ensures ∙ c.if-unrated_code.true))
-
--- one byte more
-pub loop-i-preserved : goal.loop-i-preserved
-loop-i-preserved c = (
-  unrated_more _ _ _ _ (omega arith) c.loop-i.invariant.0
-      (sym c.unrated_code.ensures ∙ c.if-unrated_code.false),
-  search rules,
-)
-
--- every byte is passed
 pub returns : goal.returns
 returns c =
-    let z : c.loop-i.i ≡ 3 * c.args.count = omega arith in
-    sym c.loop-i.invariant.0 ∙ ap (unrated_bytes _ _) z
+    any_from_yields_List (unrated_code c.args.rates) _ _ _ c.any.ensures.ran
+    (YieldsList-from_slice (take (3 * c.args.count) (drop 2 c.args.sheet.now)) (search rules)) (λ x b q k. search (rules, tests))
+    ∙ (any_listed _ _ ∙ sym (unrated_behind c.args.rates c.args.sheet.now (3 * c.args.count) (omega (arith, c.requires.1))))
