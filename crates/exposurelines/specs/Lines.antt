@@ -33,11 +33,6 @@ pub figures_parts : (e : Exposure) (count : ℕ) → count ≡ e.count
 unfolding exposure_text
 figures_parts e count is = rw is (simp append_assoc)
 
--- a refusal: the word and the number, and a line feed behind them
-pub refused_is : (k number : ℕ) → number ≡ k → refused_text k ≡ (ascii "refused " ++ decimal number) ++ ascii "\n"
-unfolding refused_text
-refused_is k number e = rw e (simp append_assoc)
-
 -- what is answered, by the outcome
 pub served_text : (a : ExposureAnswer) → a.outcome ≡ Ok tt → answered_text a.outcome a.exposure ≡ exposure_text a.exposure
 unfolding answered_text

@@ -4,13 +4,13 @@
 
 ghost use Rattle.std.specs.Prelude.{◌≡◌, not, ◌+◌, ◌<◌, ◌≤◌, T, length};
 ghost use Rattle.std.specs.Float.Ieee.{is_nan};
-ghost use Rattle.model.specs.Text.{refused_text};
 ghost use Rattle.model.specs.ExposureText.{hex_digit, hex_digits, exposure_text, answered_text, exposure_line, exposure_room};
 ghost use Rattle.model.specs.Laws.Appended.{Appended};
 ghost use Rattle.exposurelines.specs.Lines.{spaced_bits};
 
+use heads::append_refused;
 use model::{Exposure, ExposureAnswer};
-use numbers::{append_large, append_marked, append_number};
+use numbers::{append_large, append_marked};
 
 // A hexadecimal digit: `0` to `9`, then `a` to `f`.
 fn hex_digit(digit: u8) -> u8
@@ -60,19 +60,7 @@ fn append_figures(figures: Exposure, out: &mut [u8], at: usize) -> usize
     end + 1
 }
 
-// The refusal of a bus, as that of a file.
-fn append_refused(number: u8, out: &mut [u8], at: usize) -> usize
-    requires { at + 13 ≤ length out.old }
-    ensures text { Appended (refused_text number) out.old at out.new result }
-    ensures within { result ≤ at + 13 }
-{
-    let digits = appending::append(b"refused ", out, at);
-    let end = append_number(number as usize, out, digits);
-    out[end] = b'\n';
-    end + 1
-}
-
-// What is answered: the figures or the refusal.
+// What is answered: the figures, or the refusal as that of a file.
 fn append_answer(answer: ExposureAnswer, out: &mut [u8], at: usize) -> usize
     requires { T (not (is_nan answer.exposure.sum)) × T (not (is_nan answer.exposure.largest)) × (at + 40 ≤ length out.old) }
     ensures text { Appended (answered_text answer.outcome answer.exposure) out.old at out.new result }
