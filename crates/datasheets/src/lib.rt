@@ -14,9 +14,7 @@ pub fn bits_at(case: &[u8], from: usize) -> u64
     requires { from + 8 ≤ length case.now }
     ensures { result ≡ bits_at case.now from }
 {
-    let low = loads::watts_at(case, from) as u64;
-    let high = loads::watts_at(case, from + 4) as u64;
-    low + 4294967296 * high
+    u64::from_le_bytes(array::from_fn(|i| case[from + i]))
 }
 
 // The float of these bits. Without the sign, those of a NaN are above those of infinity, and which NaN it is says nothing.

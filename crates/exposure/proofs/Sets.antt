@@ -1,14 +1,14 @@
 -- The figures and the test of 16 that the code takes from a sheet's bytes are those of its sets.
 use Rattle.std.specs.Prelude.{◌≡◌, true, false, get_or, Float}
 use Rattle.std.proofs.Math.Path.{refl, sym, ap}
-use Rattle.std.proofs.Common.{◌∙◌, zero-add, add-one, arith}
+use Rattle.std.proofs.Common.{◌∙◌, zero-add, add-one, arith, length-append}
 use Rattle.std.proofs.Math.Bool.{Bool}
 use mathlib.Core.List.Memᴰ
 use mathlib.Core.List.{List, [], ◌∷◌, ◌++◌, map, flat_map, foldl, foldl-append, map-append}
 use Rattle.std.proofs.Math.Option.{none}
-use Prim.Native.Nat.{ℕ, suc, ◌+◌, ◌*◌, ◌≤◌, ◌<◌}
+use Prim.Native.Nat.{ℕ, suc, ◌+◌, ◌-◌, ◌*◌, ◌≤◌, ◌<◌}
 use Rattle.std.proofs.Math.ListN.{length, take, drop, length-map, get_or-append}
-use Rattle.std.proofs.lemmas.List.{get_or-drop, length-drop}
+use Rattle.std.proofs.lemmas.List.{get_or-drop, length-drop, length-take-le, get_or-take, get_or_append_left, drop_at, drop-drop}
 use Rattle.std.specs.Float.{binary64}
 use Rattle.std.specs.Float.Ieee.{add, mul, lt}
 use Rattle.model.specs.declared.Part.{Part}
@@ -107,6 +107,43 @@ module _ (r : Rates) where
   unfolding figures_of below
   figures_more sheet i at z d e =
       rw (add-one, map-append, d, e, z) (sym (foldl-append with_product no_exposure (map (λ j. product_at r sheet (2 + 3 * j)) (below i)) _))
+
+  -- the bytes of the first sets, three by three: what is left after k of them
+  module _ (sheet : List ℕ) (count : ℕ) (h : 2 + 3 * count ≤ length sheet) where
+    abbrev stretch : List ℕ
+    stretch = take (2 + 3 * count - 2) (drop 2 sheet)
+
+    stretch_length : length stretch ≡ 3 * count
+    stretch_length = length-take-le (2 + 3 * count - 2) (drop 2 sheet) (omega (arith, length-drop 2 sheet)) ∙ omega arith
+
+    stretch_at : (i : ℕ) → i < 3 * count → get_or stretch i 0 ≡ get_or sheet (2 + i) 0
+    stretch_at i l = get_or-take (2 + 3 * count - 2) (drop 2 sheet) i 0 (omega arith) ∙ get_or-drop 2 sheet i 0
+
+    module _ (k : ℕ) {rest : List ℕ} (left : rest ≡ drop (3 * k) stretch) where
+      left_length : length rest ≡ 3 * count - 3 * k
+      left_length = ap length left ∙ length-drop (3 * k) stretch ∙ omega (arith, stretch_length)
+
+      -- none is left
+      pub sets_end : k ≤ count → length rest < 3 → k ≡ count
+      sets_end m l = omega (arith, left_length)
+
+      -- the next one: its product, and what is left after it
+      pub sets_turn : (set after : List ℕ) → rest ≡ set ++ after → length set ≡ 3
+          → (k < count) × (after ≡ drop (3 * (k + 1)) stretch) × (product_at r set 0 ≡ product_at r sheet (2 + 3 * k))
+      unfolding product_at
+      sets_turn set after e l =
+          (more, behind, rw (byte 0 (2 + 3 * k) (omega arith, omega arith), byte 1 (2 + 3 * k + 1) (omega arith, omega arith), byte 2 (2 + 3 * k + 2) (omega arith, omega arith)))
+        where
+          more : k < count
+          more = omega (arith, left_length, ap length e, length-append set after)
+
+          behind : after ≡ drop (3 * (k + 1)) stretch
+          behind = sym (drop_at set after 3 l) ∙ ap (drop 3) (sym e ∙ left) ∙ drop-drop 3 (3 * k) stretch ∙ ap (λ n. drop n stretch) (omega arith)
+
+          byte : (i j : ℕ) → (i < 3) × (j ≡ 2 + (3 * k + i)) → get_or set i 0 ≡ get_or sheet j 0
+          byte i j m =
+              sym (get_or_append_left set after 0 i (omega (arith, m))) ∙ ap (λ xs. get_or xs i 0) (sym e ∙ left)
+              ∙ get_or-drop (3 * k) stretch i 0 ∙ stretch_at (3 * k + i) (omega (arith, more, m)) ∙ ap (λ n. get_or sheet n 0) (sym m.1)
 
   -- the bytes behind the count
   pub unrated_behind : (sheet : List ℕ) (k : ℕ) → 2 + k ≤ length sheet

@@ -31,14 +31,14 @@ fn times(rates: Rates, product: f64, code: u8) -> f64
     }
 }
 
-// "Multiply each set's chances in part-code order from 1.0": of the set whose three bytes stand from `at` on.
-fn product_at(rates: Rates, sheet: &[u8], at: usize) -> f64
-    requires { at + 3 ≤ length sheet.now }
-    ensures { result ≡ product_at rates sheet.now at }
+// "Multiply each set's chances in part-code order from 1.0": of a set's three bytes.
+fn product(rates: Rates, set: &[u8]) -> f64
+    requires { length set.now ≡ 3 }
+    ensures { result ≡ product_at rates set.now 0 }
 {
-    let first = times(rates, 1.0, sheet[at]);
-    let second = times(rates, first, sheet[at + 1]);
-    times(rates, second, sheet[at + 2])
+    let first = times(rates, 1.0, set[0]);
+    let second = times(rates, first, set[1]);
+    times(rates, second, set[2])
 }
 
 // "gives way only to a greater product"
@@ -77,8 +77,8 @@ fn reckon(rates: Rates, sheet: &[u8], count: usize) -> Exposure
     ensures { result ≡ figures_of rates sheet.now count }
 {
     let mut figures = no_figures();
-    for i in 0..count {
-        figures = with_product(figures, product_at(rates, sheet, 2 + 3 * i));
+    for set in sheet[2..2 + 3 * count].chunks_exact(3) {
+        figures = with_product(figures, product(rates, set));
     }
     figures
 }

@@ -1,25 +1,18 @@
 // Loads and ring states (document 01: ring records) in the bytes of a stored case. Places are indices from 0.
 #![tactic(auto)]
 
-ghost use Rattle.std.specs.Prelude.{◌≡◌, ◌+◌, ◌*◌, ◌≤◌, length};
+ghost use Rattle.std.specs.Prelude.{◌≡◌, ◌+◌, ◌≤◌, length};
 ghost use Rattle.loads.specs.Loads.{number_at, watts_at, booking_at, bookings_at, figures_at, load_at, state_at};
 
 use model::{Booking, Load, RingState};
 use std::array;
-
-// The number of a low byte and a high one.
-fn number_of(low: u8, high: u8) -> u16
-    ensures { result ≡ low + 256 * high }
-{
-    low as u16 + 256 * (high as u16)
-}
 
 // A number of two bytes, low byte first.
 pub fn number_at(case: &[u8], from: usize) -> u16
     requires { from + 2 ≤ length case.now }
     ensures { result ≡ number_at case.now from }
 {
-    number_of(case[from], case[from + 1])
+    u16::from_le_bytes([case[from], case[from + 1]])
 }
 
 // A number of four bytes, low byte first.
@@ -27,9 +20,7 @@ pub fn watts_at(case: &[u8], from: usize) -> u32
     requires { from + 4 ≤ length case.now }
     ensures { result ≡ watts_at case.now from }
 {
-    let low = number_at(case, from) as u32;
-    let high = number_at(case, from + 2) as u32;
-    low + 65536 * high
+    u32::from_le_bytes([case[from], case[from + 1], case[from + 2], case[from + 3]])
 }
 
 // A booking of seven bytes: its number, its bus and its watts.

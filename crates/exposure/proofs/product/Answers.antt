@@ -1,8 +1,8 @@
--- `exposure::product_at` meets its contract.
+-- `exposure::product` meets its contract.
 use native.Mathlib.Omega.{arith}
 use lib.Ieee.{of_bits}
 use Rattle.exposure.proofs.Sets.{product_of_lem}
-use Rattle.exposure.proofs.product_at.Goals as goal
+use Rattle.exposure.proofs.product.Goals as goal
 
 pub returns : goal.returns
 unfolding of_bits
