@@ -9,6 +9,7 @@ from support import path, read
 STATEMENT = read("crates", "theory", "specs", "Statements", "Numbers.antt").decode()
 THEOREMS = read("crates", "theory", "proofs", "Theorems", "Numbers.antt").decode()
 NAME = re.compile(r"\w+::\w+")
+RESULT = re.compile(r"Result<.*, Refusal>")
 HANDED = {"rings::refused", "reckoning::with_load"}     # these answer the number that they are handed
 
 
@@ -20,9 +21,9 @@ def sources():
 
 
 def answer_types():
-    """The declared types that can hold a refusal: an enum with such a case, or what holds one of these."""
+    """The types that can hold a refusal: a result whose error is one, or a declared type that holds one of these."""
     bodies = {name: body for _, text in sources() for name, body in re.findall(r"pub (?:enum|struct) (\w+) \{(.*?)^\}", text, re.S | re.M)}
-    types = {name for name, body in bodies.items() if re.search(r"\bRefused\(", body)}
+    types = {name for name, body in bodies.items() if RESULT.search(body)} | {answer for _, answer, _ in calls() if RESULT.fullmatch(answer)}
     while True:
         more = {name for name, body in bodies.items() if any(re.search(r"\b%s\b" % kind, body) for kind in types)} - types
         if not more:
@@ -33,7 +34,7 @@ def answer_types():
 def calls():
     """The public calls, with the type of their answers and what their contracts promise of these: the definitions named first."""
     for crate, text in sources():
-        for name, _, answer, contract in re.findall(r"^pub fn (\w+)\(([^)]*)\)\s*->\s*([\w\[\]; ]+?)\n(.*?)^\{", text, re.S | re.M):
+        for name, _, answer, contract in re.findall(r"^pub fn (\w+)\(([^)]*)\)\s*->\s*([\w\[\]; <>,()]+?)\n(.*?)^\{", text, re.S | re.M):
             promised = re.search(r"ensures(?: answer)? \{(.*?) \}$", contract, re.S | re.M)
             yield "%s::%s" % (crate, name), answer.strip(), re.findall(r"\b[a-z]+_\w+", promised.group(1))[:2] if promised else []
 
@@ -47,8 +48,8 @@ def groups():
 class Named(unittest.TestCase):
 
     def test_the_answers_that_hold_refusals(self):
-        self.assertLessEqual({"Outcome", "RingAnswer", "StateAnswer", "BookingAnswer", "FileAnswer", "CutSetsAnswer", "PartAnswer", "WordAnswer",
-                              "LatestAnswer", "ExposureAnswer"}, answer_types())
+        self.assertLessEqual({"Result<(), Refusal>", "RingAnswer", "StateAnswer", "BookingAnswer", "Result<FileHead, Refusal>", "CutSetsAnswer",
+                              "Result<Part, Refusal>", "Result<Word, Refusal>", "LatestAnswer", "ExposureAnswer"}, answer_types())
 
     def test_every_call_that_finds_a_refusal_has_its_field(self):
         """It is named above a field of its name, of an inner call with `inner_` before it, and with `_lem` behind it where a definition has
