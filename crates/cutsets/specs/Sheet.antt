@@ -1,5 +1,6 @@
 -- The sheet of the sets that were found, and the whole answer.
-use Rattle.std.specs.Prelude.{◌≡◌, refl, Bool, true, false, cond, ℕ, ◌+◌, ◌-◌, ◌*◌, ◌/◌, ◌%◌, ◌≤◌, ◌<◌, eqb, length, take, set, Ok}
+use Rattle.std.specs.Prelude.{◌≡◌, refl, Bool, true, false, cond, ℕ, ◌+◌, ◌-◌, ◌*◌, ◌/◌, ◌%◌, ◌≤◌, ◌<◌, eqb, length, take, Ok}
+use Rattle.std.specs.Int.{w16, to_le_bytes}
 use Rattle.std.proofs.Common.{◌∙◌, arith, lt-ltb, le-ltb}
 use Rattle.std.proofs.Math.Path.{ap}
 use mathlib.Core.List.{List, ◌∷◌, flat_map}
@@ -25,15 +26,18 @@ use Rattle.model.specs.CutSets.{
 }
 use Rattle.model.specs.Laws.Parts.{index_suc}
 use Rattle.model.specs.Laws.CutSets.{bytes_count, cut_sheet_length}
-use Rattle.model.specs.Laws.Appended.{Appended, appended_more, appended_two, appended_written, appended_front}
+use Rattle.model.specs.Laws.Appended.{Appended, appended_more, appended_written, appended_front}
 
 -- a count, low byte first, and bytes behind it
 abbrev pub headed : ℕ → List ℕ → List ℕ
 headed c bytes = (c % 256) ∷ (c / 256) ∷ bytes
 
-pub sheet_written : (c : ℕ) (bytes l l' : List ℕ) (j : ℕ) → Appended bytes (set (set l 0 (c % 256)) 1 (c / 256)) 2 l' j
-    → 2 + length bytes ≤ length l → l' ≡ written (headed c bytes) l
-sheet_written c bytes l l' j a h = appended_written (appended_more (appended_two (c % 256) (c / 256) l 0) a) (omega arith)
+-- .. as they are appended, the count first
+pub sheet_written : (c : ℕ) (number bytes : List ℕ) {l l' l'' : List ℕ} {i j : ℕ} → c < 65536 → number ≡ to_le_bytes w16 c
+    → Appended number l 0 l' i → Appended bytes l' i l'' j → 2 + length bytes ≤ length l → l'' ≡ written (headed c bytes) l
+sheet_written c number bytes fits e a b h =
+    let z : c / 256 % 256 ≡ c / 256 = omega arith in
+    rw (← z) (appended_written (appended_more (rw e at a) b) (omega arith))
 
 -- the sheet in the buffer, or refusal 8
 unfoldable pub sheet_reply : List (List Part) → List ℕ → CutSetsReply

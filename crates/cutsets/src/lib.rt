@@ -78,9 +78,9 @@ fn write_sheet(bytes: &[u8], count: usize, buffer: &mut [u8])
     ensures { buffer.new ≡ written (headed count (take (3 * count) bytes.now)) buffer.old }
 {
     let end = 3 * count;
-    buffer[0] = (count % 256) as u8;
-    buffer[1] = (count / 256) as u8;
-    appending::append(&bytes[..end], buffer, 2);
+    let number = (count as u16).to_le_bytes();
+    let behind = appending::append(&number, buffer, 0);
+    appending::append(&bytes[..end], buffer, behind);
 }
 
 // "Each has its number as the answer", and "any figure beside the record 0".
