@@ -1,19 +1,24 @@
 -- Codes listed one after the other, each only where it first comes: what is listed, and what is to be passed over after it.
-use Rattle.std.specs.Prelude.{◌≡◌, refl, true, not, ◌&&◌, cond, ◌⊎◌, ◌≢◌, ℕ, ◌+◌, ◌≤◌, ◌<◌, length}
+use Rattle.std.specs.Prelude.{◌≡◌, refl, true, not, ◌&&◌, cond, ◌⊎◌, ℕ, zero, suc, ◌+◌, ◌≤◌, ◌<◌, length, take, drop}
 use Rattle.std.proofs.Common.{sym, ◌∙◌, ap, inl, inr, arith, length-append, length-set, get_or-set_same, get_or-set_other}
 use Rattle.std.proofs.Math.Bool.{Bool, false}
 use mathlib.Core.List.Memᴰ
 use mathlib.Core.List.{List, [], ◌∷◌, ◌++◌, map}
 use Rattle.std.proofs.Math.ListN.{get_or, set}
+use Rattle.std.proofs.Math.Seq.{length-take-le}
+use Rattle.std.proofs.lemmas.List.{length-drop, get_or-take, get_or_append_left, get_or-append_right}
+use borrow.Rule.Slice.PartMut.{mid_of, put_mid, post_of, same_len_mid}
 use Rattle.model.specs.declared.Part.{Part}
+use Rattle.model.specs.declared.Commands.{Commands}
+use Rattle.model.specs.Reports.{commands_of}
 use Rattle.model.specs.declared.Part.TheVariants.{Generator, GeneratorBreaker, BusBreaker}
 use Rattle.model.specs.Lists.{keep, ◌∈◌}
 use Rattle.model.specs.Values.{part_code, same_part}
-use Rattle.model.specs.Plant.{PartCommands, largest, generator, generator_breaker, bus_breaker, InRing}
+use Rattle.model.specs.Plant.{PartCommands, largest, InRing}
 use Rattle.model.specs.Sheet.{first_occurrences}
 use Rattle.model.specs.Laws.Tests.{contra, dec}
 use Rattle.model.specs.Laws.Lists.{keep_ext, keep_twice}
-use Rattle.model.specs.Laws.Parts.{same_eq, same_refl, ring_more, index_suc, code_only}
+use Rattle.model.specs.Laws.Parts.{same_eq, same_refl, index_suc, code_only}
 use Rattle.model.specs.Laws.Appended.{Appended, appended_none, appended_byte, appended_more}
 
 -- l has true at each code to be passed over; .. and after code c
@@ -111,62 +116,70 @@ code_below (Generator k) i = omega (arith, index_suc k i.0, i.1)
 code_below (GeneratorBreaker k) i = omega (arith, index_suc k i.0, i.1)
 code_below (BusBreaker k) i = omega (arith, index_suc k i.0, i.1)
 
--- ---- an array filled with commands, index by index
+-- ---- an array in which three parts of twenty are stored
 
-pub holds_none : (l : List Bool) (C : PartCommands) → length l ≡ 84 → HoldsTo 0 l C
-holds_none l C e = record { places = e; at = λ p r. absurd (omega (arith, r.0, r.1)) }
+-- twenty stored from place a on: the length, what stands there, and what stands before
+module _ (a : ℕ) (l xs : List Bool) (h : a + 20 ≤ length l) (same : length xs ≡ length (mid_of a 20 l)) where
+  put_length : length (put_mid a 20 l xs) ≡ length l
+  put_length = same_len_mid a 20 l xs same
 
-module _ (i : ℕ) (h : i < largest) where
-  -- the parts of a ring of i have other codes than those at index i
-  apart : (p : Part) → InRing i p → (part_code p ≢ i) × (part_code p ≢ 32 + i) × (part_code p ≢ 64 + i)
-  unfolding part_code
-  apart (Generator k) r =
-      let z = index_suc k r.0 in (λ e. omega (arith, r.1), λ e. omega (arith, r.1), λ e. omega (arith, r.1))
-  apart (GeneratorBreaker k) r =
-      let z = index_suc k r.0 in (λ e. omega (arith, r.1), λ e. omega (arith, r.1), λ e. omega (arith, r.1))
-  apart (BusBreaker k) r =
-      let z = index_suc k r.0 in (λ e. omega (arith, r.1), λ e. omega (arith, r.1), λ e. omega (arith, r.1))
+  twenty : length xs ≡ 20
+  twenty = same ∙ length-take-le 20 (drop a l) (omega (arith, length-drop a l))
 
-  pub holds_more : (l : List Bool) (C : PartCommands) → HoldsTo i l C
-      → HoldsTo (i + 1) (set (set (set l i (C (generator i))) (32 + i) (C (generator_breaker i))) (64 + i) (C (bus_breaker i))) C
-  unfolding part_code
-  holds_more l C a = record { places = sized; at = ring_more (λ p. get_or third (part_code p) false ≡ C p) i before one two three }
+  put_there : (i : ℕ) → i < 20 → get_or (put_mid a 20 l xs) (a + i) false ≡ get_or xs i false
+  put_there i m =
+      let n : length (take a l) ≡ a = length-take-le a l (omega arith) in
+      get_or-append_right (take a l) (xs ++ post_of a 20 l) a (a + i) false n (omega arith)
+      ∙ ap (λ k. get_or (xs ++ post_of a 20 l) k false) (omega arith)
+      ∙ get_or_append_left xs (post_of a 20 l) false i (omega (arith, twenty))
+
+  put_before : (i : ℕ) → i < a → get_or (put_mid a 20 l xs) i false ≡ get_or l i false
+  put_before i m =
+      let n : length (take a l) ≡ a = length-take-le a l (omega arith) in
+      get_or_append_left (take a l) (xs ++ post_of a 20 l) false i (omega (arith, n)) ∙ get_or-take a l i false m
+
+-- the first twenty stored
+abbrev one_stored : List Bool → List Bool → List Bool
+one_stored l xs = xs ++ drop 20 l
+
+module _ (l xs ys : List Bool) (sized : length l ≡ 84) (x : length xs ≡ 20) (y : length ys ≡ length (mid_of 32 20 (one_stored l xs))) where
+  abbrev first : List Bool
+  first = one_stored l xs
+
+  abbrev second : List Bool
+  second = put_mid 32 20 first ys
+
+  first_length : length first ≡ 84
+  first_length = omega (arith, length-append xs (drop 20 l), length-drop 20 l)
+
+  second_length : length second ≡ 84
+  second_length = put_length 32 first ys (omega (arith, first_length)) y ∙ first_length
+
+  -- there is room for the third
+  pub stored_bound : 84 ≤ length second
+  stored_bound = omega (arith, second_length)
+
+  pub holds_stored : (c : Commands) (zs : List Bool) → length zs ≡ length (mid_of 64 20 second) → xs ≡ c.generators → ys ≡ c.generator_breakers → zs ≡ c.bus_breakers
+      → Holds (put_mid 64 20 second zs) (commands_of c)
+  unfolding part_code commands_of
+  holds_stored c zs z e f g = record { places = put_length 64 second zs stored_bound z ∙ second_length; at = at }
     where
-      first : List Bool
-      first = set l i (C (generator i))
+      room : 32 + 20 ≤ length first
+      room = omega (arith, first_length)
 
-      second : List Bool
-      second = set first (32 + i) (C (generator_breaker i))
-
-      third : List Bool
-      third = set second (64 + i) (C (bus_breaker i))
-
-      sized : length third ≡ 84
-      sized = simp length-set a.places
-
-      before : (p : Part) → InRing i p → get_or third (part_code p) false ≡ C p
-      before p r =
-          let d = apart p r in
-          get_or-set_other second (64 + i) (part_code p) (C (bus_breaker i)) false d.2
-          ∙ get_or-set_other first (32 + i) (part_code p) (C (generator_breaker i)) false d.1
-          ∙ get_or-set_other l i (part_code p) (C (generator i)) false d.0
-          ∙ a.at p r
-
-      one : get_or third (part_code (generator i)) false ≡ C (generator i)
-      one =
-          let here : part_code (generator i) ≡ i = omega arith in
+      at : (p : Part) → InRing largest p → get_or (put_mid 64 20 second zs) (part_code p) false ≡ commands_of c p
+      at (Generator zero) r = absurd (omega (arith, r.0))
+      at (Generator (suc k)) r =
+          let here : part_code (Generator (suc k)) ≡ k = omega arith in
           rw here
-          (get_or-set_other second (64 + i) i (C (bus_breaker i)) false (λ e. omega arith)
-          ∙ get_or-set_other first (32 + i) i (C (generator_breaker i)) false (λ e. omega arith)
-          ∙ get_or-set_same l i (C (generator i)) false (omega (arith, a.places)))
-
-      two : get_or third (part_code (generator_breaker i)) false ≡ C (generator_breaker i)
-      two =
-          get_or-set_other second (64 + i) (part_code (generator_breaker i)) (C (bus_breaker i)) false (λ e. omega arith)
-          ∙ get_or-set_same first (32 + i) (C (generator_breaker i)) false (simp length-set (omega (arith, a.places)))
-
-      three : get_or third (part_code (bus_breaker i)) false ≡ C (bus_breaker i)
-      three = get_or-set_same second (64 + i) (C (bus_breaker i)) false (simp length-set (omega (arith, a.places)))
+          (put_before 64 second zs stored_bound z k (omega (arith, r.1)) ∙ put_before 32 first ys room y k (omega (arith, r.1))
+          ∙ get_or_append_left xs (drop 20 l) false k (omega (arith, r.1, x)) ∙ ap (λ (v : List Bool). get_or v k false) e)
+      at (GeneratorBreaker zero) r = absurd (omega (arith, r.0))
+      at (GeneratorBreaker (suc k)) r =
+          put_before 64 second zs stored_bound z (32 + k) (omega (arith, r.1)) ∙ put_there 32 first ys room y k (omega (arith, r.1))
+          ∙ ap (λ (v : List Bool). get_or v k false) f
+      at (BusBreaker zero) r = absurd (omega (arith, r.0))
+      at (BusBreaker (suc k)) r = put_there 64 second zs stored_bound z k (omega (arith, r.1)) ∙ ap (λ (v : List Bool). get_or v k false) g
 
 -- ---- what is listed of the codes of parts
 

@@ -24,15 +24,10 @@ use walks::Outward;
 fn commanded(commands: Commands) -> [bool; 84]
     ensures { Holds result (commands_of commands) }
 {
-    let generators = commands.generators;
-    let generator_breakers = commands.generator_breakers;
-    let bus_breakers = commands.bus_breakers;
     let mut passed = [false; 84];
-    for i in 0..20 {
-        passed[i] = generators[i];
-        passed[32 + i] = generator_breakers[i];
-        passed[64 + i] = bus_breakers[i];
-    }
+    passed[..20].copy_from_slice(&commands.generators);
+    passed[32..52].copy_from_slice(&commands.generator_breakers);
+    passed[64..84].copy_from_slice(&commands.bus_breakers);
     passed
 }
 

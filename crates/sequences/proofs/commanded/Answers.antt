@@ -1,18 +1,13 @@
--- `commanded`: after i turns the commands of a ring of i stand at their codes.
-use mathlib.Core.Path.{◌≡◌}
+-- `commanded`: the commands of each kind stand at its codes.
+use Rattle.sequences.specs.Marks.{stored_bound, holds_stored}
+use lib.ListN.{length-replicate, replicate}
 use mathlib.Core.Bool.{Bool, false}
-use native.Mathlib.Omega.{arith}
-use lib.ListN.{length-replicate}
-use Rattle.model.specs.Reports.{commands_of}
-use Rattle.sequences.specs.Marks.{holds_none, holds_more}
 use Rattle.sequences.proofs.commanded.Goals as goal
 
-pub loop-i-init : goal.loop-i-init
-loop-i-init c = (holds_none _ _ (length-replicate {A = Bool} 84 false), omega arith)
-
-pub loop-i-preserved : goal.loop-i-preserved
-unfolding commands_of
-loop-i-preserved c = (holds_more _ (omega (arith, c.loop-i-test.true)) _ _ c.loop-i.invariant.0, omega arith)
+pub slice_bounds-passed-end-3 : goal.slice_bounds-passed-end-3
+slice_bounds-passed-end-3 c = stored_bound (replicate 84 false) _ _ (length-replicate {A = Bool} 84 false) c.copy_from_slice.ensures.len c.copy_from_slice-2.ensures.len
 
 pub returns : goal.returns
-returns c = let e : c.loop-i.i ≡ 20 = omega arith in rw e at c.loop-i.invariant.0
+returns c =
+    holds_stored (replicate 84 false) _ _ (length-replicate {A = Bool} 84 false) c.copy_from_slice.ensures.len c.copy_from_slice-2.ensures.len
+    c.args.commands _ c.copy_from_slice-3.ensures.len c.copy_from_slice.ensures.after c.copy_from_slice-2.ensures.after c.copy_from_slice-3.ensures.after
