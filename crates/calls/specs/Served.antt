@@ -23,7 +23,7 @@ use Rattle.model.specs.Text.{transition_line, refused_text}
 use Rattle.model.specs.Scans.{scan_reports, told_all, scan_refusal, scan_reply}
 use Rattle.model.specs.ScanText.{sheet_room, scan_text, scan_ring}
 use Rattle.model.specs.Laws.Sheet.{sheet_of_length}
-use Rattle.model.specs.Laws.Refusals.{inside, good_size, served_refused}
+use Rattle.model.specs.Laws.Refusals.{inside, good_size}
 use Rattle.model.specs.Laws.Scans.{told_size}
 use Rattle.model.specs.Laws.Choosing.{Inside}
 use Rattle.theory.specs.Proofs.Choosing.{choices_inside}
