@@ -5,7 +5,7 @@
 ghost use Rattle.std.specs.Prelude.{◌≤◌, length};
 ghost use Rattle.model.specs.CutText.{text_room};
 
-use model::Ring;
+use model::{Refusal, Ring};
 use std::io;
 
 // Prints the texts of the buses in turn.
@@ -21,10 +21,10 @@ fn print_buses(rt: &impl Print, ring: Ring, out: &mut [u8]) -> io::Result<()>
 }
 
 // Prints the refusal of a file as its run has it.
-fn print_refused(rt: &impl Print, number: u8, out: &mut [u8]) -> io::Result<()>
+fn print_refused(rt: &impl Print, refusal: Refusal, out: &mut [u8]) -> io::Result<()>
     requires { text_room ≤ length out.old }
 {
-    let length = heads::refused_text(number, out);
+    let length = heads::refused_text(words::refusal_number(refusal), out);
     rt.write_all(&out[..length])
 }
 
@@ -36,7 +36,7 @@ fn print_file(rt: &impl Print, file: &[u8], out: &mut [u8]) -> io::Result<()>
     let outcome = answer.outcome;
     match outcome {
         Ok(()) => print_buses(rt, answer.ring, out),
-        Err(refusal) => print_refused(rt, refusal as u8, out),
+        Err(refusal) => print_refused(rt, refusal, out),
     }
 }
 

@@ -6,7 +6,7 @@
 ghost use Rattle.std.specs.Prelude.{◌≤◌, length};
 ghost use Rattle.model.specs.Text.{line_room};
 
-use model::{BookingAnswer, RingState, StateAnswer};
+use model::{BookingAnswer, Refusal, RingState, StateAnswer};
 use reading::Failed;
 use std::io;
 use std::io::Read;
@@ -41,7 +41,7 @@ fn print_answer(rt: &impl Print, n: u8, answer: BookingAnswer, out: &mut [u8]) -
             rt.write_all(&out[..length])
         }
         Err(refusal) => {
-            let length = heads::refused_text(refusal as u8, out);
+            let length = heads::refused_text(words::refusal_number(refusal), out);
             rt.write_all(&out[..length])
         }
     }
@@ -85,7 +85,7 @@ fn print_ring<R: Read>(
     requires { line_room ≤ length out.old }
 {
     if components::size_outside(n) {
-        let length = heads::refused_text(2, out);
+        let length = heads::refused_text(words::refusal_number(Refusal::SizeOutside), out);
         return rt.write_all(&out[..length]);
     }
     let mut sheet = [0u8; 122];

@@ -26,7 +26,7 @@ fn print_buses(rt: &impl Print, n: u8, buses: &[BusFeed]) -> io::Result<()> {
 // The answer, or the number of its refusal.
 fn print_answer(rt: &impl Print, n: u8, answer: FeedsAnswer) -> io::Result<()> {
     if let Err(refusal) = answer.outcome {
-        let number = refusal as u8;
+        let number = words::refusal_number(refusal);
         return println!(rt; "refused {number}");
     }
     let buses = answer.buses;

@@ -6,7 +6,7 @@ ghost use Rattle.std.specs.Prelude.{◌≡◌, false, ◌≤◌, length};
 ghost use Rattle.model.specs.Refusals.{bad_ring};
 ghost use Rattle.model.specs.Text.{line_room};
 
-use model::Ring;
+use model::{Refusal, Ring};
 use reading::Failed;
 use std::io;
 use std::io::Read;
@@ -50,7 +50,7 @@ fn print_ring<R: Read>(
     requires { line_room ≤ length out.old }
 {
     if components::size_outside(n) {
-        let length = heads::refused_text(2, out);
+        let length = heads::refused_text(words::refusal_number(Refusal::SizeOutside), out);
         return rt.write_all(&out[..length]);
     }
     let line = calls::start_line(n, out);

@@ -154,7 +154,7 @@ fn print_trace(rt: &impl Print, file: &[u8]) -> io::Result<()> {
     match files::check_file(file) {
         Ok(head) => print_file(rt, head.n, head.m, file),
         Err(refusal) => {
-            let number = refusal as u8;
+            let number = words::refusal_number(refusal);
             println!(rt; "refused {number}")
         }
     }
