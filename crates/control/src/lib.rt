@@ -33,7 +33,10 @@ pub fn start(n: u8, buffer: &mut [u8]) -> StateAnswer
 {
     let load = rings::no_load();
     if components::size_outside(n) {
-        return reckoning::with_load(rings::refused(Refusal::SizeOutside, rings::blank(0)), load);
+        return reckoning::with_load(
+            rings::refused_by(Refusal::SizeOutside, rings::blank(0)),
+            load,
+        );
     }
     reckoning::with_load(transition::start(n, buffer), load)
 }
@@ -50,7 +53,7 @@ pub fn step(state: RingState, report: Report, buffer: &mut [u8]) -> StateAnswer
     let ring = state.ring;
     let load = state.load;
     if records::bad_record(state) {
-        return reckoning::with_load(rings::refused(Refusal::BadRecord, ring), load);
+        return reckoning::with_load(rings::refused_by(Refusal::BadRecord, ring), load);
     }
     reckoning::with_load(transition::step(ring, report, buffer), load)
 }
@@ -68,7 +71,7 @@ pub fn scan(state: RingState, scan: Scan, buffer: &mut [u8]) -> StateAnswer
     let ring = state.ring;
     let load = state.load;
     if records::bad_record(state) {
-        return reckoning::with_load(rings::refused(Refusal::BadRecord, ring), load); // before its count is looked at
+        return reckoning::with_load(rings::refused_by(Refusal::BadRecord, ring), load); // before its count is looked at
     }
     reckoning::with_load(transition::scan(ring, scan, buffer), load)
 }

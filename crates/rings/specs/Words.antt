@@ -111,7 +111,7 @@ module _ (h : Health) (sized : Sized h) where
       ))
 
   -- a breaker's lock is no generator's
-  lock_of_breaker : (p : Part) (k : ℕ) (v : Bool) → (p ≡ GeneratorBreaker k) ⊎ (p ≡ BusBreaker k)
+  pub lock_of_breaker : (p : Part) (k : ℕ) (v : Bool) → (p ≡ GeneratorBreaker k) ⊎ (p ≡ BusBreaker k)
       → h ≡ health_places (with_lock (health_of h) p v)
   unfolding with_lock health_places health_of same_part
   lock_of_breaker p k v (inl e) = rw e (health_held h sized)

@@ -113,7 +113,14 @@ pub fn no_load() -> Load
 
 // "Each has its number as the answer, the record as handed in and the buffer untouched."; "The choices of a refused
 // start or step .. are all dark".
-pub fn refused(refusal: Refusal, ring: Ring) -> RingAnswer
+pub fn refused(number: u8, ring: Ring) -> RingAnswer
+    ensures { result ≡ refused_answer number ring }
+{
+    refused_by(words::refusal_of(number), ring)
+}
+
+// .. by the refusal itself.
+pub fn refused_by(refusal: Refusal, ring: Ring) -> RingAnswer
     ensures { result ≡ refused_answer (refusal_number refusal) ring }
 {
     let dark = BusChoice {

@@ -31,7 +31,7 @@ fn advance(ring: Ring, kept: Ring, buffer: &mut [u8]) -> RingAnswer
             ring: next,
             choices,
         },
-        Err(refusal) => rings::refused(refusal, kept),
+        Err(refusal) => rings::refused_by(refusal, kept),
     }
 }
 
@@ -60,7 +60,7 @@ pub fn step(ring: Ring, report: Report, buffer: &mut [u8]) -> RingAnswer
     // 5 and 6 come before the plan, and so before 8.
     match reports::check_report(ring.n, report) {
         Ok(()) => advance(rings::told(ring, report), ring, buffer),
-        Err(refusal) => rings::refused(refusal, ring),
+        Err(refusal) => rings::refused_by(refusal, ring),
     }
 }
 
@@ -76,7 +76,7 @@ pub fn scan(ring: Ring, scan: Scan, buffer: &mut [u8]) -> RingAnswer
 {
     // "11 for a count above 64, after 9 and before the reports".
     if 64 < scan.count {
-        return rings::refused(Refusal::CountAbove, ring);
+        return rings::refused_by(Refusal::CountAbove, ring);
     }
     // "8 is checked last, for the scan's own sheet": the reports are checked before the plan.
     match scans::check(ring.n, scan) {
@@ -84,6 +84,6 @@ pub fn scan(ring: Ring, scan: Scan, buffer: &mut [u8]) -> RingAnswer
             let told = scans::told(ring, scan);
             advance(told, ring, buffer)
         }
-        Err(refusal) => rings::refused(refusal, ring),
+        Err(refusal) => rings::refused_by(refusal, ring),
     }
 }

@@ -2,7 +2,7 @@
 #![tactic(auto)]
 
 ghost use Rattle.std.specs.Prelude.{◌≡◌};
-ghost use Rattle.model.specs.Values.{word_number, refusal_number, word_values};
+ghost use Rattle.model.specs.Values.{word_number, refusal_number, refusal_of, word_values};
 ghost use Rattle.model.specs.Reports.{word_named};
 ghost use Rattle.model.specs.Answers.{word_answer, byte_values};
 
@@ -37,4 +37,28 @@ pub fn refusal_number(refusal: Refusal) -> u8
     ensures { result ≡ refusal_number refusal }
 {
     refusal as u8
+}
+
+// The refusal that has a number: undoes `refusal_number`. A number that none has is taken for the last one, as by the definition.
+pub fn refusal_of(number: u8) -> Refusal
+    ensures { result ≡ refusal_of number }
+{
+    match number {
+        1 => Refusal::FileShort,
+        2 => Refusal::SizeOutside,
+        3 => Refusal::ReportsAbove,
+        4 => Refusal::LengthOther,
+        5 => Refusal::PartOutside,
+        6 => Refusal::WordOutside,
+        7 => Refusal::GeneratorFit,
+        8 => Refusal::BufferShort,
+        9 => Refusal::BadRecord,
+        10 => Refusal::BusOutside,
+        11 => Refusal::CountAbove,
+        12 => Refusal::WattsOutside,
+        13 => Refusal::BookingNumber,
+        14 => Refusal::BookingsFull,
+        15 => Refusal::RateOutside,
+        _ => Refusal::Unrated,
+    }
 }

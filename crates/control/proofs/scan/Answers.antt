@@ -16,12 +16,12 @@ good : (c : Else-bad_record) → bad_record c.args.state ≡ false
 good c = sym c.bad_record.ensures ∙ c.if-bad_record.false
 
 pub with_load-requires : goal.with_load-requires
-with_load-requires c = never_served _ _ c.refused.ensures
+with_load-requires c = never_served _ _ c.refused_by.ensures
 
 pub returns-then-bad_record : goal.returns-then-bad_record
 unfolding state_scan told_state
 returns-then-bad_record c = let whole = bad_refused _ _ _ _ _ _ c.with_load.ensures _ _ (sym c.bad_record.ensures ∙ c.if-bad_record.true)
-    c.refused.ensures (omega arith) refl in record { answer = whole.0; bytes = whole.1.0; number = whole.1.1.0; values = whole.1.1.1 }
+    c.refused_by.ensures (omega arith) refl in record { answer = whole.0; bytes = whole.1.0; number = whole.1.1.0; values = whole.1.1.1 }
 
 pub scan-requires : goal.scan-requires
 scan-requires c = (good_state _ (good (goal.at.scan-requires c).Else-bad_record)).ring_good

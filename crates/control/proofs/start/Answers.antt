@@ -9,12 +9,12 @@ use Rattle.control.specs.Replies.{on_ring, never_served, start_inner, start_refu
 use Rattle.control.proofs.start.Goals as goal
 
 pub with_load-requires : goal.with_load-requires
-with_load-requires c = never_served _ _ c.refused.ensures
+with_load-requires c = never_served _ _ c.refused_by.ensures
 
 pub returns-then-size_outside : goal.returns-then-size_outside
 unfolding state_start unloaded
 returns-then-size_outside c = let whole = start_refused _ _ _ _ c.no_load-load.ensures _ c.with_load.ensures _ _
-    (sym c.size_outside.ensures ∙ c.if-size_outside.true) c.refused.ensures (omega arith) c.blank.ensures in record { answer = whole.0; bytes = whole.1.0; number = whole.1.1.0; values = whole.1.1.1 }
+    (sym c.size_outside.ensures ∙ c.if-size_outside.true) c.refused_by.ensures (omega arith) c.blank.ensures in record { answer = whole.0; bytes = whole.1.0; number = whole.1.1.0; values = whole.1.1.1 }
 
 pub start-requires : goal.start-requires
 start-requires c = size_bounds _ (sym c.size_outside.ensures ∙ c.if-size_outside.false)

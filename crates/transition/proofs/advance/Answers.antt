@@ -27,4 +27,4 @@ returns-in-Ok c = let whole = advance_served _ c.requires.1 _ (commands-planned 
 
 pub returns-in-Err : goal.returns-in-Err
 returns-in-Err c = let whole = advance_refused _ c.requires.1 _ (commands-planned (goal.at.returns-in-Err c).After-plan-planned) _ (choices-planned (goal.at.returns-in-Err c).After-plan-planned) _ _ _ _ c.write.ensures.answer c.write.ensures.bytes _
-    c.in-Err.is _ c.refused.ensures in record { answer = whole.0; bytes = whole.1.0; number = whole.1.1.0; values = whole.1.1.1 }
+    c.in-Err.is _ c.refused_by.ensures in record { answer = whole.0; bytes = whole.1.0; number = whole.1.1.0; values = whole.1.1.1 }

@@ -8,7 +8,7 @@ use Rattle.transition.proofs.scan.Goals as goal
 
 pub returns-then-scan-gt64 : goal.returns-then-scan-gt64
 unfolding scan_reply
-returns-then-scan-gt64 c = let whole = scan_above _ c.requires c.args.scan (omega (arith, facts)) c.args.buffer.now _ (omega arith) _ c.refused.ensures in record { answer = whole.0; bytes = whole.1.0; number = whole.1.1.0; values = whole.1.1.1 }
+returns-then-scan-gt64 c = let whole = scan_above _ c.requires c.args.scan (omega (arith, facts)) c.args.buffer.now _ (omega arith) _ c.refused_by.ensures in record { answer = whole.0; bytes = whole.1.0; number = whole.1.1.0; values = whole.1.1.1 }
 
 pub check-requires : goal.check-requires
 check-requires c = omega (arith, facts)
@@ -28,4 +28,4 @@ returns-in-Ok c = let whole = scan_advanced _ c.requires c.args.scan (omega (ari
 pub returns-in-Err : goal.returns-in-Err
 unfolding scan_reply
 returns-in-Err c = let whole = scan_refused _ c.requires c.args.scan (omega (arith, facts)) c.args.buffer.now _ c.check.ensures.answer _ _
-    c.in-Err.is c.refused-in-Err.ensures in record { answer = whole.0; bytes = whole.1.0; number = whole.1.1.0; values = whole.1.1.1 }
+    c.in-Err.is c.refused_by-in-Err.ensures in record { answer = whole.0; bytes = whole.1.0; number = whole.1.1.0; values = whole.1.1.1 }

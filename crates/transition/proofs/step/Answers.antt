@@ -21,4 +21,4 @@ returns-in-Ok c = let whole = step_advanced _ c.requires _ c.args.buffer.now _ c
 pub returns-in-Err : goal.returns-in-Err
 unfolding step_reply
 returns-in-Err c = let whole = step_refused _ c.requires _ c.args.buffer.now _ c.check_report.ensures.answer _ _ c.in-Err.is
-    c.refused.ensures in record { answer = whole.0; bytes = whole.1.0; number = whole.1.1.0; values = whole.1.1.1 }
+    c.refused_by.ensures in record { answer = whole.0; bytes = whole.1.0; number = whole.1.1.0; values = whole.1.1.1 }
