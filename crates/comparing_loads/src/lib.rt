@@ -9,5 +9,5 @@ use model::RingState;
 pub fn same_state(ours: RingState, theirs: RingState) -> bool
     ensures { result ≡ true → ours ≡ theirs }
 {
-    ours == theirs
+    comparing::same_ring(ours.ring, theirs.ring) && ours.load == theirs.load
 }
