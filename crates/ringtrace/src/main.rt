@@ -141,11 +141,14 @@ fn print_served(rt: &impl Print, n: u8, codes: &[u8], words: &[u8]) -> io::Resul
     print_reports(rt, state, codes, words)
 }
 
-// A file with m reports: the part codes from byte 3, then the words. One of no bytes (document 02, Note 9) has neither.
+// A file with m reports: the part codes from byte 3, then the words. One of no bytes (document 02, Note 9) is both of its stretches.
 fn print_file(rt: &impl Print, n: u8, m: usize, file: &[u8]) -> io::Result<()> {
+    if file.is_empty() {
+        return print_served(rt, n, file, file);
+    }
     match file.get(3..) {
         Some(rest) if m <= rest.len() => print_served(rt, n, &rest[..m], &rest[m..]),
-        _ => print_served(rt, n, &[], &[]),
+        _ => Err(io::ErrorKind::InvalidData.into()),
     }
 }
 
