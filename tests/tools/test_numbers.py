@@ -10,7 +10,7 @@ STATEMENT = read("crates", "theory", "specs", "Statements", "Numbers.antt").deco
 THEOREMS = read("crates", "theory", "proofs", "Theorems", "Numbers.antt").decode()
 NAME = re.compile(r"\w+::\w+")
 RESULT = re.compile(r"Result<.*, Refusal>")
-HANDED = {"rings::refused", "reckoning::with_load"}     # these answer the number that they are handed
+HANDED = {"rings::refused", "rings::refused_by", "reckoning::with_load"}     # these answer the number or the refusal that they are handed
 
 
 def sources():
