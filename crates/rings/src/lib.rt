@@ -116,19 +116,19 @@ pub fn no_load() -> Load
 pub fn refused(number: u8, ring: Ring) -> RingAnswer
     ensures { result ≡ refused_answer number ring }
 {
-    refused_by(words::refusal_of(number), ring)
+    let dark = BusChoice {
+        choice: Choice::Dark,
+    };
+    RingAnswer {
+        outcome: Err(words::refusal_of(number)),
+        ring,
+        choices: [dark; 20],
+    }
 }
 
 // .. by the refusal itself.
 pub fn refused_by(refusal: Refusal, ring: Ring) -> RingAnswer
     ensures { result ≡ refused_answer (refusal_number refusal) ring }
 {
-    let dark = BusChoice {
-        choice: Choice::Dark,
-    };
-    RingAnswer {
-        outcome: Err(refusal),
-        ring,
-        choices: [dark; 20],
-    }
+    refused(words::refusal_number(refusal), ring)
 }

@@ -1,10 +1,9 @@
--- `rings::refused` meets its contract: the refusal that has the number has the answer of the number.
-use Rattle.std.proofs.Common.{◌∙◌}
-use Rattle.model.specs.Values.{refusal_of}
-use Rattle.model.specs.Answers.{refused_answer}
-use Rattle.model.specs.Laws.Refusals.{refusal_named}
+-- `rings::refused` meets its contract: both sides compute to the refusal that has the number, and to 20 dark places.
+use Rattle.model.specs.Lists.{below}
+use Rattle.model.specs.Reports.{places}
+use Rattle.model.specs.Answers.{all_dark, refused_answer}
 use Rattle.rings.proofs.refused.Goals as goal
 
 pub returns : goal.returns
-unfolding refused_answer
-returns c = c.refused_by.ensures ∙ rw (c.refusal_of.ensures, refusal_named (refusal_of c.args.number))
+unfolding below places all_dark refused_answer
+returns c = rw (c.refusal_of.ensures)
