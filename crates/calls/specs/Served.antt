@@ -1,7 +1,7 @@
 -- A served start or step, from its answer and its sheet's bytes to its line. A ring is one that was told its reports.
 use Rattle.std.specs.Prelude.{◌≡◌, false, ◌≢◌, List, ℕ, ◌+◌, ◌*◌, ◌≤◌, length, replicate, Ok, Err}
 use Rattle.model.specs.declared.Refusal.{Refusal}
-use Rattle.model.specs.Laws.Refusals.{refusal_positive}
+use Rattle.model.specs.Laws.Refusals.{served_refused}
 use Rattle.std.proofs.Common.{sym, ◌∙◌, inl, inr, arith}
 use Rattle.std.proofs.Math.Path.{ap}
 use Rattle.std.proofs.lemmas.List.{length-replicate}
@@ -204,7 +204,8 @@ module _ (ring : Ring) (good : bad_ring ring ≡ false) (s : Scan) (buffer : Lis
     refusal_is = number_is k (ap outcome_number refused)
 
     not_served : k ≢ 0
-    not_served e = omega (arith, e, refusal_positive refusal)
+    unfolding scan_reply served_reply served_answer
+    not_served e = served_refused {r = refusal} (ap (λ (x : RingAnswer). x.outcome) answered ∙ rw (full, refusal_is, e)) refused
 
     kept : a.ring ≡ ring
     unfolding scan_reply refused_reply refused_answer

@@ -2,7 +2,6 @@
 use Rattle.std.specs.Prelude.{◌≡◌, length, Ok, Err}
 use Rattle.model.specs.declared.Refusal.{Refusal}
 use Rattle.model.specs.Values.{Outcome, refusal_number}
-use Rattle.model.specs.Laws.Numbers.{file_number}
 use Rattle.std.proofs.Common.{◌∙◌, add-one, arith, ne_eqb}
 use Rattle.std.proofs.Math.Path.{ap}
 use mathlib.Core.List.{List, map, map-append}
@@ -80,6 +79,6 @@ module _ (r : Rates) (f : List ℕ) {o : Outcome} (is : o ≡ outcome_of (file_r
       → (l' ≡ written (printed_exposures r f) l) × ((end ≡ length (printed_exposures r f)) × (end ≤ length l'))
   unfolding printed_exposures
   refused_stored j k l g s bytes sized =
-      let n = refused_number is (file_number f) k s in
+      let n = refused_number is k s in
       let t : refused_text j ≡ printed_exposures r f = rw (ne_eqb (file_refusal f) 0 n.1, n.0, g) in
       (rw t at bytes, (rw t at sized, stored_fits (record { bytes = bytes; sized = sized })))

@@ -1,6 +1,6 @@
 -- A booking and a cancellation, by the first of their conditions that is met.
 use Rattle.std.specs.Prelude.{◌≡◌, refl, Bool, true, false, ℕ, ◌≤◌, ◌<◌, Ok}
-use Rattle.std.proofs.Common.{ap, arith}
+use Rattle.std.proofs.Common.{arith}
 use borrow.Author.Tests.{lt-ltb, le-ltb, ne_eqb}
 use Rattle.model.specs.declared.Booking.{Booking}
 use Rattle.model.specs.declared.Load.{Load}
@@ -11,7 +11,7 @@ use Rattle.model.specs.Values.{refusal_number, outcome_number}
 use Rattle.model.specs.Refusals.{first_met, bus_outside}
 use Rattle.model.specs.Bookings.{most_live, live_bookings, watts_outside, is_live, no_place}
 use Rattle.model.specs.States.{reckoned, bad_record, book_refusal, cancel_refusal, booking_by, refused_booking}
-use Rattle.model.specs.Laws.Refusals.{refusal_named, refusal_positive}
+use Rattle.model.specs.Laws.Refusals.{number_of_refusal}
 use Rattle.components.specs.Tests.{is_true, is_false}
 
 -- a call of refusal k answers r: its whole answer and its number
@@ -20,10 +20,11 @@ BookingGives k state load r = (r ≡ booking_by k state load) × (outcome_number
 
 -- refused
 pub gives_unbooked : (k : ℕ) (state : RingState) (load : Load) (r : BookingAnswer) (x : Refusal) → r ≡ refused_booking (refusal_number x) state
+    → 0 < refusal_number x
     → k ≡ refusal_number x
     → BookingGives k state load r
-gives_unbooked k state load r x is e =
-    rw (e, is, ne_eqb (refusal_number x) 0 (λ z. omega (arith, z, refusal_positive x))) (refl, ap refusal_number (refusal_named x))
+gives_unbooked k state load r x is numbered e =
+    rw (e, is, ne_eqb (refusal_number x) 0 (λ z. omega (arith, z, numbered))) (refl, number_of_refusal (refusal_number x))
 
 pub gives_booked : (k : ℕ) (state : RingState) (load next : Load) (after : RingState) → after ≡ reckoned state.ring next → next ≡ load
     → k ≡ 0

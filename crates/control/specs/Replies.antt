@@ -6,7 +6,6 @@ use borrow.Author.Tests.{eq-eqb, ne_eqb}
 use Rattle.model.specs.declared.Load.{Load}
 use Rattle.model.specs.declared.Ring.{Ring}
 use Rattle.model.specs.declared.RingState.{RingState}
-use Rattle.model.specs.declared.Refusal.TheVariants.{SizeOutside, BadRecord}
 use Rattle.model.specs.declared.RingAnswer.{RingAnswer}
 use Rattle.model.specs.declared.StateAnswer.{StateAnswer}
 use Rattle.model.specs.Values.{outcome_number, choice_values}
@@ -17,7 +16,7 @@ use Rattle.model.specs.Answers.{refused_answer, refused_reply, served_answer, se
 use Rattle.model.specs.Bookings.{most_live, live_bookings, no_load}
 use Rattle.model.specs.States.{unloaded, reckoned, bad_record, state_refusal, refused_state, served_state, state_by}
 use Rattle.model.specs.Laws.Tests.{dec_eq}
-use Rattle.model.specs.Laws.Refusals.{is_number, served_refused}
+use Rattle.model.specs.Laws.Refusals.{served_refused}
 use Rattle.model.specs.Laws.Answers.{Gives, gives_refused}
 use Rattle.model.specs.Laws.Bookings.{AllBookable, OnRing}
 use Rattle.theory.specs.Proofs.Choosing.{choices_inside}
@@ -104,7 +103,7 @@ module _ (n : ℕ) (buffer : List ℕ) (a : RingAnswer) (load : Load) (none : lo
   -- 2 comes first; k is the number that the code refuses by
   pub start_refused : (k : ℕ) (kept : Ring) → size_outside n ≡ true → a ≡ refused_answer k kept → k ≡ 2 → kept ≡ blank_ring 0 → Starts buffer
   unfolding start_refusal first_met
-  start_refused k kept e back f g = start_inner buffer (rw e (gives_refused 2 _ _ _ _ (is_number SizeOutside) (λ z. omega arith) (back ∙ rw (f, g))))
+  start_refused k kept e back f g = start_inner buffer (rw e (gives_refused 2 _ _ _ _ (λ z. omega arith) (back ∙ rw (f, g))))
 
 -- a load without bookings is within its bounds
 pub none_bookable : (n : ℕ) (load : Load) → load ≡ no_load → (load.live ≤ most_live) × AllBookable n (live_bookings load)
@@ -122,7 +121,7 @@ module _ (state : RingState) (k : ℕ) (ring : Ring) (buffer : List ℕ) (a : Ri
     pub bad_refused : (j : ℕ) (kept : Ring) → bad_record state ≡ true → a ≡ refused_answer j kept → j ≡ 9 → kept ≡ state.ring → Answers buffer
     unfolding state_refusal first_met
     bad_refused j kept e back f g =
-        gives_state _ ring state.ring state.load buffer buffer a r is (rw e (gives_refused 9 _ _ _ _ (is_number BadRecord) (λ z. omega arith) (back ∙ rw (f, g))))
+        gives_state _ ring state.ring state.load buffer buffer a r is (rw e (gives_refused 9 _ _ _ _ (λ z. omega arith) (back ∙ rw (f, g))))
 
     pub good_inner : (after : List ℕ) → bad_record state ≡ false → Gives k ring state.ring buffer a after → Answers after
     unfolding state_refusal first_met

@@ -4,7 +4,6 @@ use Rattle.std.specs.Prelude as std
 use Rattle.model.specs.declared.Refusal.{Refusal}
 use Rattle.model.specs.declared.FileHead.{FileHead}
 use Rattle.model.specs.Values.{refusal_number}
-use Rattle.model.specs.Laws.Refusals.{refusal_positive}
 use Rattle.std.proofs.Math.Path.{refl, sym, ap}
 use Rattle.std.proofs.Common.{◌∙◌, inl, inr, arith, length-append}
 use mathlib.Core.List.{List, [], ◌∷◌}
@@ -58,7 +57,7 @@ number_read n c v e = go (read_or_refused n c v)
   where
     go : ReadOrRefused n (report_answer n c v) → IsRead n (report_answer n c v)
     go (inl t) = t
-    go (inr t) = let z = rw (report_refusal, t.1) at e in absurd (omega (arith, z, refusal_positive t.0))
+    go (inr t) = absurd (t.2 (rw (report_refusal, t.1) at e))
 
 -- the i-th report of two stretches whose reports are not refused
 all_read : (n : ℕ) (cs ws : List ℕ) → reports_refusal n cs ws ≡ 0 → (i : ℕ) → i < length cs → i < length ws

@@ -25,8 +25,7 @@ use Rattle.model.specs.CutSets.{cut_sheet, ring_cut_sets, cut_sets_refusal, serv
 use Rattle.model.specs.CutText.{sheet_room}
 use Rattle.model.specs.Exposure.{some_outside, exposure_refusal, exposure_answer}
 use Rattle.model.specs.Laws.Tests.{dec}
-use Rattle.model.specs.Laws.Refusals.{good_size, served_refused}
-use Rattle.model.specs.Laws.Numbers.{exposure_number}
+use Rattle.model.specs.Laws.Refusals.{good_size, served_refused, outcome_number_lem}
 use Rattle.model.specs.Laws.Bookings.{good_state}
 use Rattle.model.specs.Laws.CutSets.{cut_sheet_length, Few}
 use Rattle.theory.proofs.Theorems.CutSets.{listed}
@@ -182,4 +181,4 @@ pub gives : (state : RingState) (bus : ℕ) (r : Rates) {a : ExposureAnswer} →
     × (T (not (is_nan a.exposure.sum)) × T (not (is_nan a.exposure.largest))))
 unfolding exposure_answer
 gives state bus r e =
-    (e, (ap (λ (x : ExposureAnswer). outcome_number x.outcome) e ∙ exposure_number state bus r, rw e (answer_numbers state bus r)))
+    (e, (ap (λ (x : ExposureAnswer). outcome_number x.outcome) e ∙ outcome_number_lem (exposure_refusal state bus r), rw e (answer_numbers state bus r)))

@@ -1,7 +1,6 @@
 -- The fault file: its refusal by the tests of its head, in their order, then by its reports; and how much of it decides.
 use Rattle.std.specs.Prelude.{◌≡◌, refl, Bool, true, false, not, cond, ◌⊎◌, ◌≢◌, List, [], ◌∷◌, map, ℕ, suc, ◌+◌, ◌-◌, ◌*◌, ◌≤◌, ◌<◌, eqb, ltb, length, get_or, take, drop, Result, Ok, Err}
 use Rattle.std.proofs.Common.{sym, ◌∙◌, ap, inl, inr, arith, take_all, get_or-take, length-take-le, eqb-true, eq-eqb, ne_eqb, lt-ltb, le-ltb}
-use Rattle.std.proofs.lemmas.Bool.{eqb-false}
 use Rattle.model.specs.declared.Rates.{Rates}
 use Rattle.model.specs.declared.Refusal.{Refusal}
 use Rattle.model.specs.declared.Refusal.TheVariants.{FileShort, SizeOutside, ReportsAbove, LengthOther}
@@ -17,8 +16,7 @@ use Rattle.model.specs.CutText.{cut_text, latest_ring, printed_cut_sets}
 use Rattle.model.specs.ExposureText.{exposure_lines, printed_exposures}
 use Rattle.model.specs.Laws.Tests.{dec, dec_lt}
 use Rattle.model.specs.Laws.Reports.{stands_itself}
-use Rattle.model.specs.Laws.Refusals.{IsNumber, number_of_refusal, when_served, when_refused}
-use Rattle.model.specs.Laws.Numbers.{file_number}
+use Rattle.model.specs.Laws.Refusals.{number_of_refusal, when_served, when_refused}
 use Rattle.files.specs.Served.{stretches}
 
 -- r is the file's answer, with its values
@@ -27,13 +25,13 @@ Answered f r = (r ≡ file_answer f) × (file_values r ≡ whole_values f)
 
 answered : (f : List ℕ) (r : Result FileHead Refusal) → r ≡ file_answer f → Answered f r
 unfolding file_answer whole_values numbered
-answered f r e = (e, rw e (go (file_refusal f) (file_number f) (dec _)))
+answered f r e = (e, rw e (go (file_refusal f) (dec _)))
   where
-    go : (k : ℕ) → IsNumber k → (eqb k 0 ≡ true) ⊎ (eqb k 0 ≡ false)
+    go : (k : ℕ) → (eqb k 0 ≡ true) ⊎ (eqb k 0 ≡ false)
         → file_values (cond (eqb k 0) (Ok (record { n = file_size f; m = file_count f })) (Err (refusal_of k)))
         ≡ numbered k (file_size f ∷ file_count f ∷ [])
-    go k is (inl q) = let z : k ≡ 0 = eqb-true k 0 q in rw z
-    go k is (inr q) = rw (q, number_of_refusal k is (eqb-false k 0 q))
+    go k (inl q) = let z : k ≡ 0 = eqb-true k 0 q in rw z
+    go k (inr q) = rw (q, number_of_refusal k)
 
 -- ---- the head
 

@@ -2,7 +2,8 @@
 use Rattle.std.specs.Prelude.{◌≡◌, refl, true, false, cond, ◌⊎◌, ◌≢◌, List, ℕ, ◌+◌, ◌≤◌, ◌<◌, eqb, length, drop, Result, Ok, Err}
 use Rattle.std.specs.Prelude as std
 use Rattle.std.proofs.Math.Path.{sym, ap}
-use Rattle.std.proofs.Common.{◌∙◌, inl, inr, arith, ne_eqb, add-one, drop_of_length-le, drop-cons}
+use Rattle.std.proofs.Common.{◌∙◌, inl, inr, ne_eqb, add-one, drop_of_length-le, drop-cons}
+use Rattle.std.proofs.lemmas.Bool.{eqb-false}
 use Rattle.std.proofs.Math.Option.{Option, none, some}
 use Rattle.model.specs.declared.Part.{Part}
 use Rattle.model.specs.declared.Word.{Word}
@@ -13,7 +14,7 @@ use Rattle.model.specs.Reports.{part_named, word_named}
 use Rattle.model.specs.Refusals.{first_met, or_else, report_conditions, report_of, report_answer, report_refusal, reports_refusal}
 use Rattle.model.specs.Answers.{report_at}
 use Rattle.model.specs.Laws.Tests.{dec, dec_lt}
-use Rattle.model.specs.Laws.Refusals.{refusal_named, refusal_positive, refused_of}
+use Rattle.model.specs.Laws.Refusals.{refusal_named, number_of_refusal, refused_of}
 use Rattle.reports.specs.Reports.{past_codes, past_words, within_both}
 
 -- the outcome of a report, then of those after it
@@ -22,11 +23,9 @@ then_rest (Ok (std.Some r)) rest = rest
 then_rest (Ok std.None) rest = Ok tt
 then_rest (Err r) rest = Err r
 
--- a refusal comes before what follows it
-refused_first : (r : Refusal) (rest : ℕ) → outcome_of (or_else (refusal_number r) rest) ≡ Err r
-refused_first r rest =
-    let some : refusal_number r ≢ 0 = λ z. omega (arith, z, refusal_positive r) in
-    rw (ne_eqb (refusal_number r) 0 some) (refused_of (refusal_number r) some ∙ ap Err (refusal_named r))
+-- a refusal whose number is not 0 comes before what follows it
+refused_first : (r : Refusal) (rest : ℕ) → refusal_number r ≢ 0 → outcome_of (or_else (refusal_number r) rest) ≡ Err r
+refused_first r rest numbered = rw (ne_eqb (refusal_number r) 0 numbered) (refused_of (refusal_number r) numbered ∙ ap Err (refusal_named r))
 
 one_report : (n c v rest : ℕ) → outcome_of (or_else (report_refusal n c v) rest) ≡ then_rest (report_answer n c v) (outcome_of rest)
 unfolding report_refusal report_answer report_of outcome_of refusal_of
@@ -36,7 +35,7 @@ one_report n c v rest = go (part_named n c) (word_named v)
         → outcome_of (or_else (report_values (cond (eqb k 0) (Ok (std.Some r)) (Err (refusal_of k)))).0 rest)
         ≡ then_rest (cond (eqb k 0) (Ok (std.Some r)) (Err (refusal_of k))) (outcome_of rest)
     by_number k r (inl q) = rw q
-    by_number k r (inr q) = simp q (refused_first (refusal_of k) rest)
+    by_number k r (inr q) = simp q (refused_first (refusal_of k) rest (λ z. eqb-false k 0 q (sym (number_of_refusal k) ∙ z)))
 
     go : (o : Option Part) (u : Option Word)
         → outcome_of (or_else (report_values (report_of n o u)).0 rest) ≡ then_rest (report_of n o u) (outcome_of rest)

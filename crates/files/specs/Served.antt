@@ -12,7 +12,6 @@ use Rattle.model.specs.Answers.{file_answer}
 use Rattle.model.specs.Laws.Tests.{never, dec_eq}
 use Rattle.model.specs.Laws.Reports.{stands_itself, stretches_read}
 use Rattle.model.specs.Laws.Refusals.{number_of_refusal, first_unmet, size_bounds}
-use Rattle.model.specs.Laws.Numbers.{file_number}
 
 -- no file is both served and refused
 either : {h : FileHead} {r : Refusal} → Ok h ≡ Err r → ⊥
@@ -84,7 +83,7 @@ module _ (f : List ℕ) where
       go (inr z) =
           let t : Err (refusal_of (file_refusal f)) ≡ Err r = rw (ne_eqb (file_refusal f) 0 z) at e in
           let u : refusal_of (file_refusal f) ≡ r = cc in
-          (z, ap refusal_number (sym u) ∙ number_of_refusal (file_refusal f) (file_number f) z)
+          (z, ap refusal_number (sym u) ∙ number_of_refusal (file_refusal f))
 
   pub answer_served : (h : FileHead) → file_answer f ≡ Ok h → (file_refusal f ≡ 0) × (h.n ≡ file_size f) × (h.m ≡ file_count f)
   unfolding file_answer

@@ -1,6 +1,7 @@
 -- The rules of document 01 as definitions, a file a section, then those of document 02, a file a Note, and their laws.
 pub mod Laws
 pub mod Lists
+pub mod Papers
 pub mod Values
 pub mod Plant
 pub mod Priority

@@ -1,6 +1,6 @@
 -- The paper's number and values for every case of every enum that is, or is in, an answer.
 -- Numbers of parts, buses and generators are the paper's, from 1.
-use Rattle.std.specs.Prelude.{Bool, ◌&&◌, cond, List, [], ◌∷◌, map, ℕ, zero, suc, ◌+◌, eqb, get_or, Option, None, Some, Result, Ok, Err}
+use Rattle.std.specs.Prelude.{◌≡◌, refl, Bool, true, false, ◌&&◌, cond, List, [], ◌∷◌, map, ℕ, zero, suc, ◌+◌, eqb, get_or, Option, None, Some, Result, Ok, Err}
 use Prim.Native.Char.{code}
 use Rattle.model.specs.declared.Part.{Part}
 use Rattle.model.specs.declared.Part.TheVariants.{Generator, GeneratorBreaker, BusBreaker}
@@ -25,6 +25,7 @@ use Rattle.model.specs.declared.Refusal.TheVariants.{
   BookingsFull,
   RateOutside,
   Unrated,
+  Other,
 }
 use Rattle.model.specs.declared.FileHead.{FileHead}
 use Rattle.model.specs.declared.Choice.{Choice}
@@ -33,6 +34,7 @@ use Rattle.model.specs.declared.BusChoice.{BusChoice}
 use Rattle.model.specs.declared.Feed.{Feed}
 use Rattle.model.specs.declared.Feed.TheVariants as feed
 use Rattle.model.specs.declared.BusFeed.{BusFeed}
+use Rattle.model.specs.Papers.{in_papers}
 
 -- the number of a part among those of its kind
 abbrev pub number : Part → ℕ
@@ -68,7 +70,7 @@ word_number StuckClosed = 3
 word_number Lock = 4
 word_number Unlock = 5
 
--- "What is sent back unserved": the table's numbers, and those of the Notes
+-- "What is sent back unserved": the numbers of the table, and those of the Notes; any other by itself
 abbrev pub refusal_number : Refusal → ℕ
 refusal_number FileShort = 1
 refusal_number SizeOutside = 2
@@ -86,10 +88,11 @@ refusal_number BookingNumber = 13
 refusal_number BookingsFull = 14
 refusal_number RateOutside = 15
 refusal_number Unrated = 16
+refusal_number (Other other) = other.number
 
--- the refusal that has a number; of a number that none has this says nothing
-unfoldable pub refusal_of : ℕ → Refusal
-refusal_of k =
+-- the refusal that has a number of the papers
+abbrev pub papers_refusal : ℕ → Refusal
+papers_refusal k =
     cond (eqb k 1) FileShort (
     cond (eqb k 2) SizeOutside (
     cond (eqb k 3) ReportsAbove (
@@ -106,6 +109,15 @@ refusal_of k =
     cond (eqb k 14) BookingsFull (
     cond (eqb k 15) RateOutside (
     Unrated)))))))))))))))
+
+-- .. or any other number, by itself
+abbrev pub refusal_by : (k : ℕ) (inside : Bool) → in_papers k ≡ inside → Refusal
+refusal_by k true e = papers_refusal k
+refusal_by k false e = Other (record { number = k; outside_papers = e })
+
+-- the refusal that has a number
+unfoldable pub refusal_of : ℕ → Refusal
+refusal_of k = refusal_by k (in_papers k) refl
 
 -- a call is served, or a refusal meets it
 abbrev pub Outcome : Type 0

@@ -2,6 +2,9 @@
 // Parts, buses and generators carry the paper's numbers, 1 to n; arrays have a place for each of 20, at number - 1.
 #![tactic(auto)]
 
+ghost use Rattle.std.specs.Prelude.{◌≡◌, false};
+ghost use Rattle.model.specs.Papers.{in_papers};
+
 // "A report holds a part, which is a generator, a generator breaker or a bus breaker with its number, and a word."
 #[derive(Clone, Copy, PartialEq, Eq)]
 pub enum Part {
@@ -129,26 +132,35 @@ pub struct BusFeed {
     pub feed: Feed,
 }
 
-// "What is sent back unserved": the conditions of document 01's table and of the Notes, each with "its number as the answer". "refusal 7 is
-// given to no input any more" (document 02, Note 3): it stands here as it stands in the table.
+// A number that the papers give to no refusal: 0, or one above theirs.
+#[derive(Clone, Copy, PartialEq, Eq)]
+pub struct OtherNumber {
+    pub number: u8,
+    pub ghost outside_papers: { in_papers number ≡ false },
+}
+
+// "What is sent back unserved": the conditions of document 01's table and of the Notes, from 1 on in this order, each with "its number as
+// the answer". "refusal 7 is given to no input any more" (document 02, Note 3): it stands here as it stands in the table. An
+// answer can be made for any number, and holds that number by itself (`Other`); no call finds one (Laws/Numbers, `refused_in_papers`).
 #[derive(Clone, Copy, PartialEq, Eq)]
 pub enum Refusal {
-    FileShort = 1,
-    SizeOutside = 2,
-    ReportsAbove = 3,
-    LengthOther = 4,
-    PartOutside = 5,
-    WordOutside = 6,
-    GeneratorFit = 7,
-    BufferShort = 8,
-    BadRecord = 9,
-    BusOutside = 10,
-    CountAbove = 11,
-    WattsOutside = 12,
-    BookingNumber = 13,
-    BookingsFull = 14,
-    RateOutside = 15,
-    Unrated = 16,
+    FileShort,
+    SizeOutside,
+    ReportsAbove,
+    LengthOther,
+    PartOutside,
+    WordOutside,
+    GeneratorFit,
+    BufferShort,
+    BadRecord,
+    BusOutside,
+    CountAbove,
+    WattsOutside,
+    BookingNumber,
+    BookingsFull,
+    RateOutside,
+    Unrated,
+    Other(OtherNumber),
 }
 
 // What an inner start, step or scan answers: the ring alone.

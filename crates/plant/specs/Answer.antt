@@ -17,7 +17,7 @@ use Rattle.model.specs.Reports.{places, health_of, commands_of}
 use Rattle.model.specs.Refusals.{first_met, size_outside, health_outside, feeds_refusal}
 use Rattle.model.specs.Answers.{feeds_answer, bus_values}
 use Rattle.model.specs.Laws.Lists.{map_ext}
-use Rattle.model.specs.Laws.Numbers.{feeds_number}
+use Rattle.model.specs.Laws.Refusals.{outcome_number_lem}
 use Rattle.plant.specs.Buses.{dark_buses, feeds_below}
 
 -- a refused answer
@@ -52,7 +52,7 @@ module _ (n : ℕ) (h : Health) (c : Commands) where
   answered r e = (
     e,
     (
-      ap (λ a. outcome_number a.outcome) e ∙ feeds_number n (health_of h),
+      ap (λ a. outcome_number a.outcome) e ∙ outcome_number_lem (feeds_refusal n (health_of h)),
       ap (λ a. feed_values a.buses) e ∙ buses_values,
     ),
   )

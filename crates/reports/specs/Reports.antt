@@ -9,14 +9,11 @@ use Prim.Native.Nat.{ℕ, ◌≤◌, ◌<◌}
 use Rattle.std.proofs.Math.Dec.{ltb}
 use Rattle.std.proofs.Math.ListN.{get_or}
 use borrow.Author.Tests.{eqb-true, lt-ltb, le-ltb}
-use Rattle.std.proofs.Common.{arith, ne_eqb}
-use Rattle.std.proofs.lemmas.Bool.{eqb-false}
 use Rattle.model.specs.declared.Part.{Part}
 use Rattle.model.specs.declared.Word.{Word}
 use Rattle.model.specs.declared.Report.{Report}
 use Rattle.model.specs.declared.Refusal.{Refusal}
-use Rattle.model.specs.declared.Refusal.TheVariants.{WordOutside}
-use Rattle.model.specs.Values.{part_code, word_number, refusal_number, refusal_of, numbered, report_values}
+use Rattle.model.specs.Values.{part_code, word_number, refusal_of, numbered, report_values}
 use Rattle.model.specs.Plant.{InRing}
 use Rattle.model.specs.Reports.{part_named, word_named}
 use Rattle.model.specs.Refusals.{
@@ -30,7 +27,7 @@ use Rattle.model.specs.Refusals.{
 }
 use Rattle.model.specs.Answers.{part_answer, word_answer, report_at, report_values_at}
 use Rattle.model.specs.Laws.Tests.{dec}
-use Rattle.model.specs.Laws.Refusals.{IsNumber, is_number, zero_number, cond_number, number_of_refusal, refusal_positive}
+use Rattle.model.specs.Laws.Refusals.{number_of_refusal}
 use Rattle.model.specs.Laws.Reports.{code_named}
 use Rattle.codes.specs.Codes.{of_ring, code_reads}
 use Rattle.words.specs.Words.{word_named_lem, number_names}
@@ -81,8 +78,7 @@ answer_values n c v = go (part_named n c) (word_named v) refl refl
         ≡ numbered (report_values (cond (eqb k 0) (Ok (std.Some r)) (Err (refusal_of k)))).0 (c ∷ v ∷ [])
     by_number k r p q (inl e) = rw (e, p, q)
     by_number k r p q (inr e) =
-        let x = refusal_number (refusal_of k) in
-        rw (e, ne_eqb x 0 (λ z. omega (arith, z, refusal_positive (refusal_of k))))
+        rw (e, number_of_refusal k, e)
 
     go : (o : Option Part) (u : Option Word) → part_named n c ≡ o → word_named v ≡ u
         → report_values (report_of n o u) ≡ numbered (report_values (report_of n o u)).0 (c ∷ v ∷ [])
@@ -95,10 +91,10 @@ answer_values n c v = go (part_named n c) (word_named v) refl refl
 -- ---- one reading of a report, by its part or by its code
 
 -- the number of a report that a test picks
-picked_number : (k : ℕ) (r : Report) → IsNumber k → (eqb k 0 ≡ true) ⊎ (eqb k 0 ≡ false)
+picked_number : (k : ℕ) (r : Report) → (eqb k 0 ≡ true) ⊎ (eqb k 0 ≡ false)
     → (report_values (cond (eqb k 0) (Ok (std.Some r)) (Err (refusal_of k)))).0 ≡ k
-picked_number k r is (inl e) = rw e (sym (eqb-true k 0 e))
-picked_number k r is (inr e) = rw e (number_of_refusal k is (eqb-false k 0 e))
+picked_number k r (inl e) = rw e (sym (eqb-true k 0 e))
+picked_number k r (inr e) = rw e (number_of_refusal k)
 
 -- a report's code and number are read as the part, if the ring has it, and the word
 read_as : (n : ℕ) (p : Part) (w : Word) → InRing 32 p
@@ -117,7 +113,7 @@ one_reading n r h = read_as n r.part r.word h ∙ go (dec (not_of_ring n r.part)
     go : (not_of_ring n r.part ≡ true) ⊎ (not_of_ring n r.part ≡ false)
         → (report_values (report_of n (of_ring n r.part) (some r.word))).0 ≡ first_met (report_conditions n r)
     go (inl e) = rw e
-    go (inr e) = simp e (picked_number _ r (cond_number (word_of_other_kind r.part (word_number r.word)) (is_number WordOutside) zero_number) (dec _))
+    go (inr e) = simp e (picked_number _ r (dec _))
 
 -- ---- the i-th report of a file
 

@@ -12,7 +12,6 @@ use Rattle.model.specs.Reports.{told}
 use Rattle.model.specs.Refusals.{first_met, or_else, report_conditions}
 use Rattle.model.specs.Scans.{told_all, first_refusal}
 use Rattle.model.specs.Laws.Refusals.{outcome_is, served_zero, refused_by}
-use Rattle.model.specs.Laws.Numbers.{first_refusal_number}
 use Rattle.model.specs.Laws.Scans.{told_append}
 
 -- ---- the ring told each report
@@ -52,7 +51,7 @@ module _ (n : ℕ) (l : List Report) where
 
   pub all_passed : (i : ℕ) → length l ≤ i → DecidedFrom n l i → Checked n l (Ok tt)
   unfolding DecidedFrom first_refusal outcome_of
-  all_passed i h decided = outcome_is (first_refusal_number _ _) (Ok tt) (rw (decided, drop_of_length-le l {i = i} h))
+  all_passed i h decided = outcome_is _ (Ok tt) (rw (decided, drop_of_length-le l {i = i} h))
 
   module _ (i : ℕ) (d : Report) (h : i < length l) (decided : DecidedFrom n l i) (o : Outcome)
       (is : o ≡ outcome_of (first_met (report_conditions n (get_or l i d)))) where
@@ -74,4 +73,4 @@ module _ (n : ℕ) (l : List Report) where
     report_bad r e =
         let z = refused_by is r e in
         let first : first_refusal n l ≡ own = then_rest_lem ∙ rw (ne_eqb own 0 z.1) in
-        outcome_is (first_refusal_number _ _) (Err r) (sym e ∙ is ∙ ap outcome_of (sym first))
+        outcome_is _ (Err r) (sym e ∙ is ∙ ap outcome_of (sym first))

@@ -14,7 +14,6 @@ use Rattle.model.specs.Reports.{health_of, command_places, planned, with_plan}
 use Rattle.model.specs.Refusals.{sheet_refusal, next_sheet}
 use Rattle.model.specs.Answers.{buffer_after, refused_answer, served_answer}
 use Rattle.model.specs.Laws.Refusals.{served_zero, refused_number}
-use Rattle.model.specs.Laws.Numbers.{sheet_number}
 use Rattle.model.specs.Laws.Answers.{Gives, gives_served, gives_refused}
 use Rattle.sheet.specs.Writing.{sheet_by, sheet_is}
 
@@ -53,7 +52,6 @@ module _ (ring : Ring) (small : ring.n ≤ largest) (new : Commands) (planned_is
         → Gives refusal ring kept buffer a after
     unfolding buffer_after
     advance_refused r e a is =
-        let number = sheet_number (length buffer) (next_sheet ring) in
-        let z = refused_number outcome_is number r e in
+        let z = refused_number outcome_is r e in
         let kept_bytes : after ≡ buffer = left_is ∙ rw (ne_eqb refusal 0 z.1) in
-        rw kept_bytes (gives_refused _ _ _ _ _ number z.1 (is ∙ ap (λ k. refused_answer k kept) (sym z.0)))
+        rw kept_bytes (gives_refused _ _ _ _ _ z.1 (is ∙ ap (λ k. refused_answer k kept) (sym z.0)))

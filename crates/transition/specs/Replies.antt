@@ -8,7 +8,6 @@ use Rattle.model.specs.declared.Ring.{Ring}
 use Rattle.model.specs.declared.RingAnswer.{RingAnswer}
 use Rattle.model.specs.declared.Scan.{Scan}
 use Rattle.model.specs.declared.Refusal.{Refusal}
-use Rattle.model.specs.declared.Refusal.TheVariants.{CountAbove}
 use Rattle.model.specs.Values.{Outcome, refusal_number, outcome_of}
 use Rattle.model.specs.Plant.{smallest, largest}
 use Rattle.model.specs.Reports.{blank_ring, told}
@@ -25,8 +24,7 @@ use Rattle.model.specs.Refusals.{
 }
 use Rattle.model.specs.Answers.{refused_answer}
 use Rattle.model.specs.Scans.{scan_reports, told_all, first_refusal, scan_refusal}
-use Rattle.model.specs.Laws.Refusals.{IsNumber, is_number, inside, good_size, served_zero, refused_number}
-use Rattle.model.specs.Laws.Numbers.{report_number, first_refusal_number}
+use Rattle.model.specs.Laws.Refusals.{inside, good_size, served_zero, refused_number}
 use Rattle.model.specs.Laws.Answers.{Gives, gives_refused}
 use Rattle.model.specs.Laws.Calls.{step_refusal_lem, scan_refusal_lem}
 use Rattle.model.specs.Laws.Scans.{told_size}
@@ -51,11 +49,11 @@ module _ (k reports : ℕ) (ring all_told : Ring) (buffer : List ℕ)
       → Gives k all_told ring buffer a after
   reports_good e next kept after gives is same = rw (number, served_zero checked e) (rw (is, same) at gives)
 
-  reports_bad : IsNumber reports → (r : Refusal) → o ≡ Err r → a ≡ refused_answer (refusal_number r) ring → Gives k all_told ring buffer a buffer
-  reports_bad own r e is =
-      let z = refused_number checked own r e in
+  reports_bad : (r : Refusal) → o ≡ Err r → a ≡ refused_answer (refusal_number r) ring → Gives k all_told ring buffer a buffer
+  reports_bad r e is =
+      let z = refused_number checked r e in
       let early : k ≡ reports = number ∙ rw (ne_eqb reports 0 z.1) in
-      rw early (gives_refused _ _ _ _ _ own z.1 (is ∙ ap (λ l. refused_answer l ring) (sym z.0)))
+      rw early (gives_refused _ _ _ _ _ z.1 (is ∙ ap (λ l. refused_answer l ring) (sym z.0)))
 
 -- the step of a good record
 module _ (ring : Ring) (good : bad_ring ring ≡ false) (r : Report) (buffer : List ℕ) (o : Outcome)
@@ -67,7 +65,7 @@ module _ (ring : Ring) (good : bad_ring ring ≡ false) (r : Report) (buffer : L
 
   pub step_refused : (k : Refusal) → o ≡ Err k → a ≡ refused_answer (refusal_number k) ring
       → Gives (step_refusal ring r (length buffer)) (told ring r) ring buffer a buffer
-  step_refused = reports_bad _ _ ring (told ring r) buffer (step_refusal_lem ring good r (length buffer)) o checked a (report_number ring.n r)
+  step_refused = reports_bad _ _ ring (told ring r) buffer (step_refusal_lem ring good r (length buffer)) o checked a
 
 -- the scan of a good record
 module _ (ring : Ring) (good : bad_ring ring ≡ false) (s : Scan) where
@@ -85,7 +83,7 @@ module _ (ring : Ring) (good : bad_ring ring ≡ false) (s : Scan) where
   unfolding first_met count_above
   scan_above h buffer k e a is =
       rw (scan_refusal_lem ring good s (length buffer), lt-ltb 64 s.count h)
-      (gives_refused 11 _ _ _ _ (is_number CountAbove) (λ z. omega arith) (is ∙ ap (λ l. refused_answer l ring) e))
+      (gives_refused 11 _ _ _ _ (λ z. omega arith) (is ∙ ap (λ l. refused_answer l ring) e))
 
   module _ (few : s.count ≤ 64) (buffer : List ℕ) (o : Outcome) (checked : o ≡ outcome_of (first_refusal ring.n (scan_reports s)))
       (a : RingAnswer) where
@@ -101,4 +99,4 @@ module _ (ring : Ring) (good : bad_ring ring ≡ false) (s : Scan) where
 
     pub scan_refused : (k : Refusal) → o ≡ Err k → a ≡ refused_answer (refusal_number k) ring
         → Gives (scan_refusal ring s (length buffer)) scanned ring buffer a buffer
-    scan_refused = reports_bad _ _ ring scanned buffer number_is o checked a (first_refusal_number ring.n (scan_reports s))
+    scan_refused = reports_bad _ _ ring scanned buffer number_is o checked a

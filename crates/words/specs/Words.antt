@@ -1,11 +1,11 @@
 -- Words: what each byte names, and the answer to it with its values.
-use Rattle.std.specs.Prelude.{◌≡◌, refl, false, [], ◌∷◌, ℕ, ◌<◌, ◌≤◌, eqb, Result, Ok, Err}
-use Rattle.std.proofs.Common.{sym, ap, arith, lit<, eqb-true, ne_eqb}
+use Rattle.std.specs.Prelude.{◌≡◌, refl, [], ◌∷◌, ℕ, ◌<◌, eqb, Result, Ok, Err}
+use Rattle.std.proofs.Common.{sym, ap, arith, eqb-true, ne_eqb}
 use Rattle.std.proofs.Math.Option.{Option, none, some}
 use Rattle.model.specs.declared.Word.{Word}
 use Rattle.model.specs.declared.Word.TheVariants.{Fit, StuckOff, StuckOpen, StuckClosed, Lock, Unlock}
 use Rattle.model.specs.declared.Refusal.{Refusal}
-use Rattle.model.specs.declared.Refusal.TheVariants.{WordOutside, Unrated}
+use Rattle.model.specs.declared.Refusal.TheVariants.{WordOutside}
 use Rattle.model.specs.Lists.{first, is_none}
 use Rattle.model.specs.Values.{word_number, refusal_number, refusal_of, numbered, word_values}
 use Rattle.model.specs.Reports.{word_named}
@@ -69,32 +69,3 @@ word_above v h = word_gives v (Err WordOutside) (rw (no_word v h))
 -- a refusal's number
 pub refusal_of_number : (k : ℕ) (r : Refusal) → k ≡ refusal_number r → r ≡ refusal_of k
 refusal_of_number k r e = rw e (sym (refusal_named r))
-
--- a number that is none of the first fifteen
-module _ (k : ℕ) (h : 0 < k → 15 < k) where
-  other : (j : ℕ) → 0 < j → j ≤ 15 → k ≡ j → ⊥
-  other j p q e = omega (arith, p, q, e, h (omega (arith, p, e)))
-
-  differs : (j : ℕ) → 0 < j → j ≤ 15 → eqb k j ≡ false
-  differs j p q = ne_eqb k j (other j p q)
-
-  pub refusal_of_other : Unrated ≡ refusal_of k
-  unfolding refusal_of
-  refusal_of_other =
-      rw (
-        differs 1 (omega arith) (omega arith),
-        differs 2 (omega arith) (omega arith),
-        differs 3 (omega arith) (omega arith),
-        differs 4 (omega arith) (omega arith),
-        differs 5 (omega arith) (omega arith),
-        differs 6 (omega arith) (omega arith),
-        differs 7 (omega arith) (omega arith),
-        differs 8 (omega arith) (omega arith),
-        differs 9 (omega arith) (omega arith),
-        differs 10 (omega arith) (omega arith),
-        differs 11 (omega arith) (omega arith),
-        differs 12 (omega arith) (omega arith),
-        differs 13 (omega arith) (omega arith),
-        differs 14 (omega arith) (omega arith),
-        differs 15 (omega arith) (omega arith),
-      )

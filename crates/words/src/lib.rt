@@ -6,7 +6,7 @@ ghost use Rattle.model.specs.Values.{word_number, refusal_number, refusal_of, wo
 ghost use Rattle.model.specs.Reports.{word_named};
 ghost use Rattle.model.specs.Answers.{word_answer, byte_values};
 
-use model::{Refusal, Word};
+use model::{OtherNumber, Refusal, Word};
 
 // "Words: 0 fit again, 1 stuck off (generators), 2 stuck open, 3 stuck closed (breakers)."; "Word 4 locks it and word 5 unlocks it" (document
 // 02, Note 7).
@@ -36,10 +36,28 @@ pub fn number_of(word: Word) -> u8
 pub fn refusal_number(refusal: Refusal) -> u8
     ensures { result ≡ refusal_number refusal }
 {
-    refusal as u8
+    match refusal {
+        Refusal::FileShort => 1,
+        Refusal::SizeOutside => 2,
+        Refusal::ReportsAbove => 3,
+        Refusal::LengthOther => 4,
+        Refusal::PartOutside => 5,
+        Refusal::WordOutside => 6,
+        Refusal::GeneratorFit => 7,
+        Refusal::BufferShort => 8,
+        Refusal::BadRecord => 9,
+        Refusal::BusOutside => 10,
+        Refusal::CountAbove => 11,
+        Refusal::WattsOutside => 12,
+        Refusal::BookingNumber => 13,
+        Refusal::BookingsFull => 14,
+        Refusal::RateOutside => 15,
+        Refusal::Unrated => 16,
+        Refusal::Other(other) => other.number,
+    }
 }
 
-// The refusal that has a number: undoes `refusal_number`. A number that none has is taken for the last one, as by the definition.
+// The refusal that has a number: undoes `refusal_number`, for every number.
 pub fn refusal_of(number: u8) -> Refusal
     ensures { result ≡ refusal_of number }
 {
@@ -59,6 +77,7 @@ pub fn refusal_of(number: u8) -> Refusal
         13 => Refusal::BookingNumber,
         14 => Refusal::BookingsFull,
         15 => Refusal::RateOutside,
-        _ => Refusal::Unrated,
+        16 => Refusal::Unrated,
+        _ => Refusal::Other(OtherNumber { number }),
     }
 }

@@ -77,6 +77,7 @@ use Rattle.model.specs.States.{
   refused_state,
 }
 use Rattle.model.specs.Laws.Tests.{contra}
+use Rattle.model.specs.Laws.Refusals.{served_refused}
 use Rattle.demands.specs.Statements.Demand3.{
   PlantState,
   decode,
@@ -683,7 +684,7 @@ none_meets_20 d = five ((d.start_answered 20 full_room).only PartOutside refl)
 
 none_meets_21 : Demand3 serves_starts → ⊥
 unfolding serves_starts start_spoilt served_state
-none_meets_21 d = let zero_is_two : 0 ≡ 2 = (d.start_answered 21 full_room).always 2 (too_large (omega arith)) in omega (arith, zero_is_two)
+none_meets_21 d = served_refused refl ((d.start_answered 21 full_room).always 2 (too_large (omega arith)))
 
 -- none of the wrong controllers meets demand 2
 pub none_meets_2 : (k : Row2) → k ∈ wrongs2 → Demand2 k.wrong → ⊥

@@ -37,17 +37,17 @@ passed c = (
 pub returns-then-bad_record : goal.returns-then-bad_record
 unfolding book_answer
 returns-then-bad_record c =
-    let k = book_9 c.args.state c.args.booking (λ e. search outcomes) in let whole = gives_unbooked _ _ _ _ BadRecord c.unbooked.ensures k in record { answer = whole.0; number = whole.1 }
+    let k = book_9 c.args.state c.args.booking (λ e. search outcomes) in let whole = gives_unbooked _ _ _ _ BadRecord c.unbooked.ensures (omega arith) k in record { answer = whole.0; number = whole.1 }
 
 pub returns-then-bus_outside : goal.returns-then-bus_outside
 unfolding book_answer
 returns-then-bus_outside c =
-    let k = book_10 c.args.state c.args.booking (λ e. search outcomes) (λ e. search outcomes) in let whole = gives_unbooked _ _ _ _ BusOutside c.unbooked-then-bus_outside.ensures k in record { answer = whole.0; number = whole.1 }
+    let k = book_10 c.args.state c.args.booking (λ e. search outcomes) (λ e. search outcomes) in let whole = gives_unbooked _ _ _ _ BusOutside c.unbooked-then-bus_outside.ensures (omega arith) k in record { answer = whole.0; number = whole.1 }
 
 pub returns-then-watts_outside : goal.returns-then-watts_outside
 unfolding book_answer
 returns-then-watts_outside c =
-    let k = book_12 c.args.state c.args.booking (λ e. search outcomes) (λ e. search outcomes) (λ e. search outcomes) in let whole = gives_unbooked _ _ _ _ WattsOutside c.unbooked-then-watts_outside.ensures k in record { answer = whole.0; number = whole.1 }
+    let k = book_12 c.args.state c.args.booking (λ e. search outcomes) (λ e. search outcomes) (λ e. search outcomes) in let whole = gives_unbooked _ _ _ _ WattsOutside c.unbooked-then-watts_outside.ensures (omega arith) k in record { answer = whole.0; number = whole.1 }
 
 pub is_live-requires : goal.is_live-requires
 is_live-requires c = (good_state _ (good (goal.at.is_live-requires c).Else-bad_record)).few
@@ -55,14 +55,14 @@ is_live-requires c = (good_state _ (good (goal.at.is_live-requires c).Else-bad_r
 pub returns-then-is_live : goal.returns-then-is_live
 unfolding book_answer
 returns-then-is_live c =
-    let k = book_13 c.args.state c.args.booking (λ e. search outcomes) (λ e. search outcomes) (λ e. search outcomes) (λ e. search outcomes) in let whole = gives_unbooked _ _ _ _ BookingNumber c.unbooked-then-is_live.ensures k in record { answer = whole.0; number = whole.1 }
+    let k = book_13 c.args.state c.args.booking (λ e. search outcomes) (λ e. search outcomes) (λ e. search outcomes) (λ e. search outcomes) in let whole = gives_unbooked _ _ _ _ BookingNumber c.unbooked-then-is_live.ensures (omega arith) k in record { answer = whole.0; number = whole.1 }
 
 pub returns-then-load-ge64 : goal.returns-then-load-ge64
 unfolding book_answer
 returns-then-load-ge64 c =
     let k =
     book_14 c.args.state c.args.booking (λ e. search outcomes) (λ e. search outcomes) (λ e. search outcomes) (λ e. search outcomes)
-    (omega (arith, facts)) in let whole = gives_unbooked _ _ _ _ BookingsFull c.unbooked-then-load-ge64.ensures k in record { answer = whole.0; number = whole.1 }
+    (omega (arith, facts)) in let whole = gives_unbooked _ _ _ _ BookingsFull c.unbooked-then-load-ge64.ensures (omega arith) k in record { answer = whole.0; number = whole.1 }
 
 -- the booking is within the bounds of a good ring
 pub reckoned_load-booked-requires : goal.reckoned_load-booked-requires

@@ -25,7 +25,7 @@ live c = is_true _ (λ e. search (outcomes, not-true, not-false))
 pub returns-then-bad_record : goal.returns-then-bad_record
 unfolding cancel_answer
 returns-then-bad_record c =
-    let k = cancel_9 c.args.state c.args.number (λ e. search outcomes) in let whole = gives_unbooked _ _ _ _ BadRecord c.unbooked.ensures k in record { answer = whole.0; number = whole.1 }
+    let k = cancel_9 c.args.state c.args.number (λ e. search outcomes) in let whole = gives_unbooked _ _ _ _ BadRecord c.unbooked.ensures (omega arith) k in record { answer = whole.0; number = whole.1 }
 
 pub is_live-requires : goal.is_live-requires
 is_live-requires c = (good_state _ (good (goal.at.is_live-requires c).Else-bad_record)).few
@@ -33,7 +33,7 @@ is_live-requires c = (good_state _ (good (goal.at.is_live-requires c).Else-bad_r
 pub returns-then-not-is_live : goal.returns-then-not-is_live
 unfolding cancel_answer
 returns-then-not-is_live c =
-    let k = cancel_13 c.args.state c.args.number (λ e. search outcomes) (λ e. search (outcomes, not-true, not-false)) in let whole = gives_unbooked _ _ _ _ BookingNumber c.unbooked-then-not-is_live.ensures k in record { answer = whole.0; number = whole.1 }
+    let k = cancel_13 c.args.state c.args.number (λ e. search outcomes) (λ e. search (outcomes, not-true, not-false)) in let whole = gives_unbooked _ _ _ _ BookingNumber c.unbooked-then-not-is_live.ensures (omega arith) k in record { answer = whole.0; number = whole.1 }
 
 pub without_booking-requires : goal.without_booking-requires
 without_booking-requires c = ((good_state _ (good (goal.at.without_booking-requires c).Else-bad_record)).few, live (goal.at.without_booking-requires c).Else-not-is_live)

@@ -13,7 +13,7 @@ use Rattle.model.specs.declared.Report.{Report}
 use Rattle.model.specs.declared.Ring.{Ring}
 use Rattle.model.specs.declared.RingState.{RingState}
 use Rattle.model.specs.declared.Refusal.{Refusal}
-use Rattle.model.specs.Values.{number, word_number, Outcome, refusal_number, outcome_number, outcome_of}
+use Rattle.model.specs.Values.{number, word_number, Outcome, refusal_number, refusal_of, outcome_of}
 use Rattle.model.specs.Plant.{smallest, largest, all_off, InRing}
 use Rattle.model.specs.Choosing.{plan, commands}
 use Rattle.model.specs.Sheet.{opening, closing, sheet_of, sheet, written}
@@ -50,8 +50,7 @@ use Rattle.model.specs.States.{
   state_scan,
 }
 use Rattle.model.specs.Laws.Tests.{contra, dec, dec_eq, dec_lt, or_cases, or_none}
-use Rattle.model.specs.Laws.Refusals.{IsNumber, size_bounds, refused_number}
-use Rattle.model.specs.Laws.Numbers.{start_number, step_number, scan_number, state_number}
+use Rattle.model.specs.Laws.Refusals.{size_bounds, refused_of, refused_number}
 use Rattle.model.specs.Laws.Calls.{or_nothing, step_refusal_lem, scan_refusal_lem}
 use Rattle.model.specs.Laws.Parts.{health_places_lem, lock_places, command_places_lem}
 use Rattle.model.specs.Laws.Sheet.{sheet_of_length}
@@ -100,11 +99,7 @@ use Rattle.demands.proofs.Proofs.Steady.{Ready, Steady, sheet_is}
 
 -- ---- the reply that has a number
 
--- an outcome that is served has the number 0, and one that is not served is a refusal
-pub served_number : (o : Outcome) → served_outcome o ≡ true → outcome_number o ≡ 0
-served_number (Ok _) e = refl
-served_number (Err r) e = contra e refl
-
+-- an outcome that is not served is a refusal
 pub refusal_in : (o : Outcome) → served_outcome o ≡ false → (r : Refusal) × (o ≡ Err r)
 refusal_in (Ok _) e = contra refl e
 refusal_in (Err r) e = (r, refl)
@@ -129,10 +124,10 @@ pub judged_met : {Met : ℕ → Type 0} {Fine : Type 0} {j : ℕ} → Judged Met
 judged_met (met j l m only) i z p = rw z at m
 judged_met (fine none f) i z p = absurd (p refl)
 
--- .. and the number of a call that a refusal meets is that refusal's
-pub judged_number : {Met : ℕ → Type 0} {Fine : Type 0} {j : ℕ} → Judged Met Fine j → (i : ℕ) → Met i → j ≡ i
-judged_number (met j l m only) i k = sym (only i k)
-judged_number (fine none f) i k = absurd (none i k)
+-- .. and the outcome of a call that a refusal meets is that refusal
+pub judged_outcome : {Met : ℕ → Type 0} {Fine : Type 0} {j : ℕ} → Judged Met Fine j → (i : ℕ) → Met i → outcome_of j ≡ Err (refusal_of i)
+judged_outcome (met j l m only) i k = rw (← only i k) (refused_of i (λ z. omega (arith, z, l, only i k)))
+judged_outcome (fine none f) i k = absurd (none i k)
 
 -- condition 8, met and not
 short_lt : (room : ℕ) (bytes : List ℕ) → too_short room bytes ≡ true → room < length bytes
@@ -195,13 +190,13 @@ module _ (k : ℕ) (state kept : RingState) (buffer : List ℕ) where
   refused_is e = rw (ne_eqb k 0 (λ z. contra (zero_served z) e))
 
   -- what is claimed of it, where the number is that of the call
-  pub answered_by : {Met : ℕ → Type 0} {Fine : Type 0} → IsNumber k → Judged Met Fine k
+  pub answered_by : {Met : ℕ → Type 0} {Fine : Type 0} → Judged Met Fine k
       → (Fine → length (next_sheet state.ring) ≤ length buffer)
       → Answered Met kept buffer reply
   unfolding refused_state after
-  answered_by {Met} {Fine} named judged fits = record {
-    only = λ r e. let t = refused_number reply_outcome named r e in judged_met judged (refusal_number r) t.0 t.1;
-    always = λ i m. ap outcome_number reply_outcome ∙ named ∙ judged_number judged i m;
+  answered_by {Met} {Fine} judged fits = record {
+    only = λ r e. let t = refused_number reply_outcome r e in judged_met judged (refusal_number r) t.0 t.1;
+    always = λ i m. reply_outcome ∙ judged_outcome judged i m;
     record_kept = λ e. rw (refused_is e);
     buffer_kept = λ e. rw (refused_is e);
     choices_dark = λ e. rw (refused_is e);
@@ -303,7 +298,7 @@ judge_start n room = go (dec (size_outside n)) (dec (too_short room (next_sheet 
 pub start_answered : (n : ℕ) (buffer : List ℕ) → Answered (StartMeets n (length buffer)) (unloaded (blank_ring 0)) buffer (state_start n buffer)
 unfolding state_start unloaded
 start_answered n buffer = answered_by (start_refusal n (length buffer)) (unloaded (blank_ring n)) (unloaded (blank_ring 0)) buffer
-    (start_number n (length buffer)) (judge_start n (length buffer))
+    (judge_start n (length buffer))
     (λ f. omega (arith, f.fits, ap length (sheet_is f.small (start_ready n f.small))))
 
 -- a fine start is served, a served one fine
@@ -536,10 +531,6 @@ abbrev pub call_refusal : RingState → Call → ℕ
 call_refusal state (step r buffer) = state_refusal state (step_refusal state.ring r (length buffer))
 call_refusal state (scan s buffer) = state_refusal state (scan_refusal state.ring s (length buffer))
 
-call_refusal_number : (state : RingState) (call : Call) → IsNumber (call_refusal state call)
-call_refusal_number state (step r buffer) = state_number state (step_number state.ring r (length buffer))
-call_refusal_number state (scan s buffer) = state_number state (scan_number state.ring s (length buffer))
-
 -- every call is answered by its refusal, and by the ring state that was told its reports
 abbrev pub call_reply : RingState → Call → StateReply
 call_reply state call = state_by (call_refusal state call) (told_state state (words call)) state (lent call)
@@ -579,7 +570,7 @@ module _ {n : ℕ} {W : World} (small : n ≤ largest) (s : Steady n W) (good : 
   pub call_answered : Answered (Meets n W.plant call) W.state (lent call) (reply_to controller W.state call)
   call_answered =
       rw (call_reply_lem W.state call)
-      (answered_by (call_refusal W.state call) told_state_lem W.state (lent call) (call_refusal_number W.state call) judged_call
+      (answered_by (call_refusal W.state call) told_state_lem W.state (lent call) judged_call
       (λ f. omega (arith, f.fits, sheet_for_lem)))
 
   -- a fine call is served, a served one fine

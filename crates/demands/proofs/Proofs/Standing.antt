@@ -16,7 +16,7 @@ use Rattle.model.specs.declared.Ring.{Ring}
 use Rattle.model.specs.declared.RingState.{RingState}
 use Rattle.model.specs.declared.BusChoice.{BusChoice}
 use Rattle.model.specs.declared.BookingAnswer.{BookingAnswer}
-use Rattle.model.specs.Values.{number, same_part, refusal_number, outcome_number, outcome_of}
+use Rattle.model.specs.Values.{number, same_part, refusal_number, outcome_of}
 use Rattle.model.specs.Plant.{smallest, largest, generator, health_of_kind, InRing}
 use Rattle.model.specs.Reports.{health_by, lock_by, reported, health_of, blank_ring, told, called_for, with_plan}
 use Rattle.model.specs.Sheet.{written}
@@ -39,8 +39,7 @@ use Rattle.model.specs.States.{
 }
 use Rattle.model.specs.Laws.Tests.{contra, dec, dec_eq}
 use Rattle.model.specs.Laws.Lists.{any_in, any_false}
-use Rattle.model.specs.Laws.Refusals.{IsNumber, refused_number}
-use Rattle.model.specs.Laws.Numbers as numbers
+use Rattle.model.specs.Laws.Refusals.{refused_number}
 use Rattle.model.specs.Laws.Parts.{same_eq, health_places_lem, lock_places}
 use Rattle.demands.specs.Statements.Demand3.{
   PlantState,
@@ -88,7 +87,7 @@ use Rattle.demands.proofs.Proofs.Answering.{
   judged_fine,
   judged_zero,
   judged_met,
-  judged_number,
+  judged_outcome,
   start_served,
   start_ready,
   blank_fit,
@@ -276,10 +275,6 @@ abbrev booking_refusal : RingState → BookingCall → ℕ
 booking_refusal state (book b) = book_refusal state b
 booking_refusal state (cancel v) = cancel_refusal state v
 
-booking_refusal_number : (state : RingState) (call : BookingCall) → IsNumber (booking_refusal state call)
-booking_refusal_number state (book b) = numbers.book_number state b
-booking_refusal_number state (cancel v) = numbers.cancel_number state v
-
 abbrev pub booking_load : RingState → BookingCall → Load
 booking_load state (book b) = with_booking state.load b
 booking_load state (cancel v) = without_booking state.load v
@@ -324,10 +319,10 @@ module _ (k : ℕ) (state : RingState) (load : Load) where
       go (inr z) = rw (ne_eqb k 0 z)
 
   -- what is claimed of it, where the number is that of the call
-  answered_so : {Met : ℕ → Type 0} {Fine : Type 0} → IsNumber k → Judged Met Fine k → BookingAnswered Met state answer
-  answered_so {Met} {Fine} named judged = record {
-    only = λ r e. let t = refused_number answer_outcome named r e in judged_met judged (refusal_number r) t.0 t.1;
-    always = λ i m. ap outcome_number answer_outcome ∙ named ∙ judged_number judged i m;
+  answered_so : {Met : ℕ → Type 0} {Fine : Type 0} → Judged Met Fine k → BookingAnswered Met state answer
+  answered_so {Met} {Fine} judged = record {
+    only = λ r e. let t = refused_number answer_outcome r e in judged_met judged (refusal_number r) t.0 t.1;
+    always = λ i m. answer_outcome ∙ judged_outcome judged i m;
     record_kept = unbooked_state;
   }
 
@@ -403,7 +398,7 @@ module _ {n : ℕ} {W : World} (big : smallest ≤ n) (small : n ≤ largest) (s
   pub booking_answered : BookingAnswered (BookingMeets n W.history call) W.state (answer_to controller W.state call)
   booking_answered =
       rw (booking_answer W.state call)
-      (answered_so (booking_refusal W.state call) W.state (booking_load W.state call) (booking_refusal_number W.state call) judged_booking)
+      (answered_so (booking_refusal W.state call) W.state (booking_load W.state call) judged_booking)
 
   -- a served one is fine, a fine one served
   pub booked_fine : is_booked (answer_to controller W.state call) ≡ true → BookingFine n W.history call

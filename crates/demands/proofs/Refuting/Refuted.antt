@@ -19,7 +19,7 @@ use Rattle.model.specs.declared.Refusal.{Refusal}
 use Rattle.model.specs.declared.Feed.{Feed}
 use Rattle.model.specs.declared.Feed.TheVariants as feed
 use Rattle.model.specs.Lists.{below, first, any_of, sum, is_none, ◌∈◌, RisingBy, empty, more}
-use Rattle.model.specs.Values.{part_code, same_part, Outcome, refusal_number, outcome_number, choice_source, choice_at}
+use Rattle.model.specs.Values.{part_code, same_part, Outcome, refusal_number, refusal_of, outcome_number, choice_source, choice_at}
 use Rattle.model.specs.Plant.{PartHealth, largest, InRing, parts, bus_feed, Reaches}
 use Rattle.model.specs.Priority.{Path}
 use Rattle.model.specs.Choosing.{permitted, choose, chosen, plan, commands, choice_of}
@@ -27,6 +27,7 @@ use Rattle.model.specs.Sheet.{opening, closing}
 use Rattle.model.specs.Reports.{blank_ring}
 use Rattle.model.specs.States.{StateReply, unloaded}
 use Rattle.model.specs.Laws.Tests.{contra, dec, dec_lt, or_cases, and_left, and_right, and_intro, not_less}
+use Rattle.model.specs.Laws.Refusals.{number_of_refusal}
 use Rattle.model.specs.Laws.Lists.{any_at, any_in, below_lt, first_none, first_past, none_some}
 use Rattle.model.specs.Laws.Parts.{parts_at, same_refl}
 use Rattle.model.specs.Laws.Sheet.{closing_paths}
@@ -89,7 +90,7 @@ use Rattle.demands.specs.Statements.Demand3.{
 use Rattle.theory.proofs.Theorems.Closing.{closing_at}
 use Rattle.demands.proofs.Proofs.Operations.{opening_at}
 use Rattle.demands.proofs.Proofs.Standing.{same_phases}
-use Rattle.demands.proofs.Proofs.Answering.{served_number, Judged, met, fine, judge_start, judge_call, CallFine}
+use Rattle.demands.proofs.Proofs.Answering.{Judged, met, fine, judge_start, judge_call, CallFine}
 use Rattle.demands.proofs.Proofs.Booking.{booking_number, judge_booking}
 use Rattle.demands.specs.Statements.Demand2.{FirstPermitted, found, not_found, earlier, Needed, ToOpen, ToClose, Serves, Demand2}
 use Rattle.demands.proofs.Theorems.Demand2.{earlier_chosen, needed_commanded}
@@ -209,6 +210,10 @@ unfolding on_phases
 some_phases none f e = contra e refl
 some_phases (some ph) f e = (ph, refl, e)
 
+-- no outcome is both served and refused
+not_served : (o : Outcome) {r : Refusal} → served_outcome o ≡ true → o ≡ Err r → ⊥
+not_served o e q = contra (rw q at e) refl
+
 -- ---- a call is served or refused as it must be
 
 -- refused, and something else
@@ -229,9 +234,9 @@ module _ {Met : ℕ → Type 0} {Fine : Type 0} (o : Outcome) where
       go (Ok _) q t = contra (rw q) t.0
       go (Err r) q t = unequal (outcome_number o) k (rw q (by j (refusal_number r) (only r q))) t.1
 
-  always_sound : {k : ℕ} → ((i : ℕ) → Met i → outcome_number o ≡ i) → Judged Met Fine k → not_refused k o ≡ true → ⊥
+  always_sound : {k : ℕ} → ((i : ℕ) → Met i → o ≡ Err (refusal_of i)) → Judged Met Fine k → not_refused k o ≡ true → ⊥
   unfolding not_refused
-  always_sound always (met k l m one) e = unequal (outcome_number o) k (always k m) (both (differ k 0) _ e).1
+  always_sound always (met k l m one) e = unequal (outcome_number o) k (ap outcome_number (always k m) ∙ number_of_refusal k) (both (differ k 0) _ e).1
   always_sound always (fine free f) e = contra e refl
 
 -- .. and the record that it gives where it is refused
@@ -270,7 +275,7 @@ in_range : (c : Controller) (n : ℕ) (buffer : List ℕ)
 in_range c n buffer a s = go (dec_lt largest n)
   where
     go : (largest < n) ⊎ (n ≤ largest) → n ≤ largest
-    go (inl l) = absurd (omega (arith, served_number (c.start n buffer).answer.outcome s, a.always 2 (too_large l)))
+    go (inl l) = absurd (not_served (c.start n buffer).answer.outcome s (a.always 2 (too_large l)))
     go (inr l) = l
 
 -- the refusal due to a call is the one that meets it

@@ -2,7 +2,7 @@
 -- controller that meets demand 3: a list with bookings and cancellations leads to the plant and to what is shown that it leads to without them.
 use Rattle.std.specs.Prelude.{◌≡◌, Bool, true, false, cond, ◌⊎◌, List, ℕ, ◌≤◌, eqb}
 use Rattle.std.proofs.Math.Path.{refl}
-use Rattle.std.proofs.Common.{sym, ◌∙◌, ap, inl, inr, arith}
+use Rattle.std.proofs.Common.{sym, ◌∙◌, ap, inl, inr}
 use Rattle.std.proofs.Math.Option.{some}
 use Rattle.model.specs.declared.RingState.{RingState}
 use Rattle.model.specs.Values.{refusal_number}
@@ -11,7 +11,7 @@ use Rattle.model.specs.States.{told_state, reckoned, bad_record, state_refusal, 
 use Rattle.model.specs.CutSets.{cut_sets_refusal, cut_sets_reply}
 use Rattle.model.specs.Plant.{smallest, largest}
 use Rattle.model.specs.Laws.Tests.{contra, dec}
-use Rattle.model.specs.Laws.Refusals.{good_size, refusal_positive}
+use Rattle.model.specs.Laws.Refusals.{good_size}
 use Rattle.demands.specs.Statements.Demand3.{
   Controller,
   PlantState,
@@ -28,6 +28,7 @@ use Rattle.demands.specs.Statements.Demand3.{
   answer_to,
   words,
   lent,
+  served_outcome,
   is_served,
   is_booked,
   World,
@@ -46,7 +47,7 @@ use Rattle.demands.specs.Statements.Demand3.{
 use Rattle.demands.specs.Statements.Records.{Arrays}
 use Rattle.demands.specs.Statements.Bookings.{SwitchAlike, unbooked, SeenAlike}
 use Rattle.demands.specs.Controller.{controller}
-use Rattle.demands.proofs.Proofs.Answering.{served_number, refusal_in, ring_good, call_refusal, call_reply_lem}
+use Rattle.demands.proofs.Proofs.Answering.{refusal_in, ring_good, call_refusal, call_reply_lem}
 use Rattle.demands.proofs.Proofs.Standing.{same_phases, stands_good, booked_is, unbooked_is, booking_stands}
 use Rattle.demands.proofs.Theorems.Records.{good_stands}
 
@@ -125,8 +126,7 @@ serve_alike {a = a} {b = b} p q e = go (dec (is_served b))
     go (inl f) = f
     go (inr f) =
         let t = refusal_in b.answer.outcome f in
-        let met = p.always (refusal_number t.0) (q.only t.0 t.1) in
-        absurd (omega (arith, refusal_positive t.0, served_number a.answer.outcome e, met))
+        contra e (ap served_outcome (p.always (refusal_number t.0) (q.only t.0 t.1)))
 
 -- two replies that are document 01's for one plant have one sheet's phases and the same choices
 phases_alike : {n : ℕ} {P : PlantState} {a b : StateReply} {ph : Phases} → AsChosen n P a → AsChosen n P b → decode n a.buffer ≡ some ph

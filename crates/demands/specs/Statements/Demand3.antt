@@ -23,7 +23,7 @@ use Rattle.model.specs.declared.Refusal.{Refusal}
 use Rattle.model.specs.declared.Feed.{Feed}
 use Rattle.model.specs.declared.Feed.TheVariants as feed
 use Rattle.model.specs.Lists.{keep, any_of, sum, ◌∈◌}
-use Rattle.model.specs.Values.{number, index, same_part, Outcome, refusal_number, outcome_number, choice_source, choice_at}
+use Rattle.model.specs.Values.{number, index, same_part, Outcome, refusal_number, refusal_of, choice_source, choice_at}
 use Rattle.model.specs.Plant.{PartHealth, PartCommands, smallest, largest, generator, bus_feed, InRing, Reaches}
 use Rattle.model.specs.Choosing.{plan, commands, choices}
 use Rattle.model.specs.Sheet.{opening, closing, sheet}
@@ -472,18 +472,17 @@ pub data BookingMeets (n : ℕ) (h : History) : BookingCall → ℕ → Type 0 w
   no_place : {b : Booking} → OnBus n b → InRange b → (Live h b.number → ⊥) → 64 ≤ length h.live → BookingMeets n h (book b) 14
   not_live : {v : ℕ} → (Live h v → ⊥) → BookingMeets n h (cancel v) 13
 
--- what is claimed of every booking and cancellation, by the refusals that meet it and the record that it gives where it is refused; no refusal
--- that meets a call is numbered 0, as a served call is
+-- what is claimed of every booking and cancellation, by the refusals that meet it and the record that it gives where it is refused
 pub record BookingAnswered (Met : ℕ → Type 0) (kept : RingState) (answer : BookingAnswer) : Type 0 where
   pub only : (r : Refusal) → answer.outcome ≡ Err r → Met (refusal_number r)
-  pub always : (k : ℕ) → Met k → outcome_number answer.outcome ≡ k
+  pub always : (k : ℕ) → Met k → answer.outcome ≡ Err (refusal_of k)
   pub record_kept : is_booked answer ≡ false → answer.state ≡ kept
 
 -- what is claimed of every call with orders, by the refusals that meet it, the record that it gives where it is refused, and the buffer lent
 pub record Answered (Met : ℕ → Type 0) (kept : RingState) (buffer : List ℕ) (reply : StateReply) : Type 0 where
   -- "a call is refused exactly when a numbered refusal meets it", with its number
   pub only : (r : Refusal) → reply.answer.outcome ≡ Err r → Met (refusal_number r)
-  pub always : (k : ℕ) → Met k → outcome_number reply.answer.outcome ≡ k
+  pub always : (k : ℕ) → Met k → reply.answer.outcome ≡ Err (refusal_of k)
   -- "the record as handed in and the buffer untouched", "The choices of a refused start or step .. are all dark"; "a refused call
   -- that they add is answered as a refused step" (document 02)
   pub record_kept : is_served reply ≡ false → reply.answer.state ≡ kept

@@ -8,7 +8,7 @@ use Rattle.model.specs.Sheet.{written}
 use Rattle.model.specs.Reports.{health_of}
 use Rattle.model.specs.Refusals.{next_sheet}
 use Rattle.model.specs.Answers.{refused_answer, refused_reply, served_answer, served_reply, reply_by, call_values}
-use Rattle.model.specs.Laws.Refusals.{IsNumber, number_of_refusal}
+use Rattle.model.specs.Laws.Refusals.{number_of_refusal}
 use Rattle.model.specs.Laws.Choosing.{choices_values, dark_values}
 
 -- a call of refusal k answers r and leaves the bytes `after` in the buffer: its reply, its number and the values of its choices
@@ -24,6 +24,6 @@ module _ (k : ℕ) (ring kept : Ring) (buffer : List ℕ) (r : RingAnswer) where
   unfolding served_reply served_answer call_values
   gives_served after e is left = rw (e, is) (refl, (left, (refl, choices_values ring.n (health_of ring.health))))
 
-  pub gives_refused : IsNumber k → k ≢ 0 → r ≡ refused_answer k kept → Gives k ring kept buffer r buffer
+  pub gives_refused : k ≢ 0 → r ≡ refused_answer k kept → Gives k ring kept buffer r buffer
   unfolding refused_reply refused_answer call_values
-  gives_refused p e is = rw (ne_eqb k 0 e, is) (refl, (refl, (number_of_refusal k p e, dark_values ring.n)))
+  gives_refused e is = rw (ne_eqb k 0 e, is) (refl, (refl, (number_of_refusal k, dark_values ring.n)))

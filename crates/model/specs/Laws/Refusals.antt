@@ -1,7 +1,9 @@
 -- Laws of outcomes and of the refusals.
-use Rattle.std.specs.Prelude.{◌≡◌, refl, Bool, true, false, ◌⊎◌, ◌≢◌, List, [], ◌∷◌, ℕ, ◌≤◌, ◌<◌, ltb, eqb, Ok, Err}
+use mathlib.Core.Bool.{Bool-set}
+use Rattle.std.specs.Prelude.{◌≡◌, refl, Bool, true, false, ◌⊎◌, ◌≢◌, List, [], ◌∷◌, ℕ, ◌≤◌, ◌<◌, ltb, leb, eqb, Ok, Err}
 use Rattle.std.proofs.Math.Path.{sym, ap}
-use Rattle.std.proofs.Common.{◌∙◌, inl, inr, arith, lit<, ltb-false, lt-ltb, le-ltb, ne_eqb}
+use Rattle.std.proofs.Common.{◌∙◌, subst, inl, inr, arith, ltb-true, ltb-false, lt-ltb, le-ltb, leb-true, le-leb, eqb-true, ne_eqb}
+use Rattle.std.proofs.lemmas.Bool.{eqb-false}
 use Rattle.std.proofs.Math.Bool.{cond}
 use Rattle.model.specs.declared.Ring.{Ring}
 use Rattle.model.specs.declared.Refusal.{Refusal}
@@ -22,14 +24,26 @@ use Rattle.model.specs.declared.Refusal.TheVariants.{
   BookingsFull,
   RateOutside,
   Unrated,
+  Other,
 }
+use Rattle.model.specs.declared.OtherNumber.{OtherNumber}
 use Rattle.model.specs.Lists.{any_of}
-use Rattle.model.specs.Values.{Outcome, refusal_number, refusal_of, outcome_number, outcome_of}
+use Rattle.model.specs.Papers.{last_refusal, in_papers}
+use Rattle.model.specs.Values.{Outcome, refusal_number, papers_refusal, refusal_by, refusal_of, outcome_number, outcome_of}
 use Rattle.model.specs.Plant.{smallest, largest}
 use Rattle.model.specs.Refusals.{first_met, or_else, size_outside, bad_ring, bus_outside}
-use Rattle.model.specs.Laws.Tests.{never, or_none, or_right, dec_eq}
+use Rattle.model.specs.Laws.Tests.{never, contra, and_left, and_right, and_intro, or_none, or_right, by_cond, dec_eq}
 
 -- ---- the numbers of refusals
+
+-- a number that no refusal of the papers has is held by itself
+refusal_other : (other : OtherNumber) → refusal_of other.number ≡ Other other
+unfolding refusal_of
+refusal_other other = go (in_papers other.number) refl
+  where
+    go : (inside : Bool) (e : in_papers other.number ≡ inside) → refusal_by other.number inside e ≡ Other other
+    go true e = contra e other.outside_papers
+    go false e = ap (λ h. Other (record { number = other.number; outside_papers = h })) (Bool-set _ _ e other.outside_papers)
 
 -- a refusal's number names it
 pub refusal_named : (r : Refusal) → refusal_of (refusal_number r) ≡ r
@@ -50,52 +64,72 @@ refusal_named BookingNumber = refl
 refusal_named BookingsFull = refl
 refusal_named RateOutside = refl
 refusal_named Unrated = refl
+refusal_named (Other other) = refusal_other other
 
--- no refusal is numbered 0
-pub refusal_positive : (r : Refusal) → 0 < refusal_number r
-refusal_positive FileShort = lit< tt
-refusal_positive SizeOutside = lit< tt
-refusal_positive ReportsAbove = lit< tt
-refusal_positive LengthOther = lit< tt
-refusal_positive PartOutside = lit< tt
-refusal_positive WordOutside = lit< tt
-refusal_positive GeneratorFit = lit< tt
-refusal_positive BufferShort = lit< tt
-refusal_positive BadRecord = lit< tt
-refusal_positive BusOutside = lit< tt
-refusal_positive CountAbove = lit< tt
-refusal_positive WattsOutside = lit< tt
-refusal_positive BookingNumber = lit< tt
-refusal_positive BookingsFull = lit< tt
-refusal_positive RateOutside = lit< tt
-refusal_positive Unrated = lit< tt
+-- refusals of one number are one
+pub same_refusal : (a b : Refusal) → refusal_number a ≡ refusal_number b → a ≡ b
+same_refusal a b e = sym (refusal_named a) ∙ (ap refusal_of e ∙ refusal_named b)
 
--- k is 0 or the number of a refusal
+-- k is the number of the first of two refusals, or that of the second
+either_number : (k i : ℕ) (r rest : Refusal) → refusal_number r ≡ i → (k ≢ i → refusal_number rest ≡ k)
+    → refusal_number (cond (eqb k i) r rest) ≡ k
+either_number k i r rest e h =
+    by_cond (λ x. refusal_number x ≡ k) (eqb k i) (λ t. e ∙ sym (eqb-true k i t)) (λ t. h (eqb-false k i t))
+
+-- the number of a refusal of the papers
+number_in_papers : (k : ℕ) → in_papers k ≡ true → refusal_number (papers_refusal k) ≡ k
+number_in_papers k e =
+    let low = ltb-true 0 k (and_left (ltb 0 k) (leb k last_refusal) e) in
+    let high = leb-true k last_refusal (and_right (ltb 0 k) (leb k last_refusal) e) in
+    either_number k 1 _ _ refl
+    (λ a. either_number k 2 _ _ refl
+    (λ b. either_number k 3 _ _ refl
+    (λ c. either_number k 4 _ _ refl
+    (λ d. either_number k 5 _ _ refl
+    (λ f. either_number k 6 _ _ refl
+    (λ g. either_number k 7 _ _ refl
+    (λ h. either_number k 8 _ _ refl
+    (λ i. either_number k 9 _ _ refl
+    (λ j. either_number k 10 _ _ refl
+    (λ l. either_number k 11 _ _ refl
+    (λ m. either_number k 12 _ _ refl
+    (λ n. either_number k 13 _ _ refl
+    (λ o. either_number k 14 _ _ refl
+    (λ p. either_number k 15 _ _ refl
+    (λ q. omega (arith, low, high, a, b, c, d, f, g, h, i, j, l, m, n, o, p, q))))))))))))))))
+
+-- the number of the refusal that has a number
+pub number_of_refusal : (k : ℕ) → refusal_number (refusal_of k) ≡ k
+unfolding refusal_of
+number_of_refusal k = go (in_papers k) refl
+  where
+    go : (inside : Bool) (e : in_papers k ≡ inside) → refusal_number (refusal_by k inside e) ≡ k
+    go true e = number_in_papers k e
+    go false e = refl
+
+-- the papers give r its number
+abbrev pub InPapers : Refusal → Type 0
+InPapers r = in_papers (refusal_number r) ≡ true
+
+-- no refusal of the papers is numbered 0
+pub refusal_positive : (r : Refusal) → InPapers r → 0 < refusal_number r
+refusal_positive r e = ltb-true 0 (refusal_number r) (and_left _ _ e)
+
+-- k is 0 or the number of a refusal of the papers
 abbrev pub IsNumber : ℕ → Type 0
-IsNumber k = outcome_number (outcome_of k) ≡ k
+IsNumber k = k ≤ last_refusal
 
-pub is_number : (r : Refusal) → IsNumber (refusal_number r)
-unfolding outcome_of refusal_of
-is_number FileShort = refl
-is_number SizeOutside = refl
-is_number ReportsAbove = refl
-is_number LengthOther = refl
-is_number PartOutside = refl
-is_number WordOutside = refl
-is_number GeneratorFit = refl
-is_number BufferShort = refl
-is_number BadRecord = refl
-is_number BusOutside = refl
-is_number CountAbove = refl
-is_number WattsOutside = refl
-is_number BookingNumber = refl
-is_number BookingsFull = refl
-is_number RateOutside = refl
-is_number Unrated = refl
+-- the number of a refusal of the papers, and 0
+pub is_number : (r : Refusal) → InPapers r → IsNumber (refusal_number r)
+is_number r e = leb-true (refusal_number r) last_refusal (and_right _ _ e)
 
 pub zero_number : IsNumber 0
-unfolding outcome_of
-zero_number = refl
+zero_number = omega arith
+
+-- a number of the papers is that of a refusal of theirs
+pub refusal_in_papers : (k : ℕ) → IsNumber k → k ≢ 0 → InPapers (refusal_of k)
+refusal_in_papers k p e =
+    rw (number_of_refusal k) (and_intro (ltb 0 k) (leb k last_refusal) (lt-ltb 0 k (omega (arith, e))) (le-leb k last_refusal p))
 
 -- one of two numbers
 pub cond_number : (met : Bool) {j k : ℕ} → IsNumber j → IsNumber k → IsNumber (cond met j k)
@@ -161,13 +195,17 @@ pub refused_of : (k : ℕ) → k ≢ 0 → outcome_of k ≡ Err (refusal_of k)
 unfolding outcome_of
 refused_of k e = rw (ne_eqb k 0 e)
 
--- the number of the refusal that has a number
-pub number_of_refusal : (k : ℕ) → IsNumber k → k ≢ 0 → refusal_number (refusal_of k) ≡ k
-number_of_refusal k p e = ap outcome_number (sym (refused_of k e)) ∙ p
+-- the outcome that has a number has that number
+pub outcome_number_lem : (k : ℕ) → outcome_number (outcome_of k) ≡ k
+outcome_number_lem k = go (dec_eq k 0)
+  where
+    go : (k ≡ 0) ⊎ (k ≢ 0) → outcome_number (outcome_of k) ≡ k
+    go (inl e) = rw (e, served_of)
+    go (inr e) = rw (refused_of k e) (number_of_refusal k)
 
 -- o is the outcome of number k
-pub outcome_is : {k : ℕ} → IsNumber k → (o : Outcome) → o ≡ outcome_of k → (o ≡ outcome_of k) × (outcome_number o ≡ k)
-outcome_is p o e = (e, rw e p)
+pub outcome_is : (k : ℕ) (o : Outcome) → o ≡ outcome_of k → (o ≡ outcome_of k) × (outcome_number o ≡ k)
+outcome_is k o e = (e, rw e (outcome_number_lem k))
 
 -- the number of an outcome that is served, and of one that is refused
 module _ {k : ℕ} {o : Outcome} (is : o ≡ outcome_of k) where
@@ -185,8 +223,12 @@ module _ {k : ℕ} {o : Outcome} (is : o ≡ outcome_of k) where
       go (inl z) = served_refused (is ∙ ap outcome_of z ∙ served_of) e
       go (inr z) = let t : Err (refusal_of k) ≡ Err r = sym (refused_of k z) ∙ sym is ∙ e in (cc, z)
 
-  pub refused_number : IsNumber k → (r : Refusal) → o ≡ Err r → (k ≡ refusal_number r) × (k ≢ 0)
-  refused_number p r e = (sym p ∙ ap outcome_number (sym is ∙ e), (refused_by r e).1)
+  pub refused_number : (r : Refusal) → o ≡ Err r → (k ≡ refusal_number r) × (k ≢ 0)
+  refused_number r e = (sym (outcome_number_lem k) ∙ ap outcome_number (sym is ∙ e), (refused_by r e).1)
+
+  -- a call that is refused by a number of the papers is refused by a refusal of theirs
+  pub refused_in_papers : IsNumber k → (r : Refusal) → o ≡ Err r → InPapers r
+  refused_in_papers p r e = let t = refused_by r e in subst (λ x. InPapers x) t.0 (refusal_in_papers k p t.1)
 
 -- the answer to a call whose checks have the outcome o, of number k
 module _ {A : Type 0} (served : A) (refused : Refusal → A) (k : ℕ) (o : Outcome) (is : o ≡ outcome_of k) where

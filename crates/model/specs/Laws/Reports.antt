@@ -1,18 +1,19 @@
 -- Laws of files, codes, words and reports: what a file stands for; reading a code undoes writing it; a report is read or refused.
 use Rattle.std.specs.Prelude.{◌≡◌, refl, cond, ◌⊎◌, ◌≢◌, List, [], ◌∷◌, ℕ, ◌+◌, ◌≤◌, ◌<◌, min, eqb, length, take, drop, Result, Ok, Err}
 use Rattle.std.specs.Prelude as std
-use Rattle.std.proofs.Common.{inl, inr, arith, eqb-true, eq-eqb, ne_eqb}
+use Rattle.std.proofs.Common.{◌∙◌, sym, inl, inr, arith, eqb-true, eq-eqb, ne_eqb}
 use Rattle.std.proofs.Math.Option.{Option, none, some}
 use Rattle.model.specs.declared.Part.{Part}
 use Rattle.model.specs.declared.Word.{Word}
 use Rattle.model.specs.declared.Report.{Report}
 use Rattle.model.specs.declared.Refusal.{Refusal}
 use Rattle.model.specs.declared.Refusal.TheVariants.{PartOutside, WordOutside}
-use Rattle.model.specs.Values.{part_code, refusal_of}
+use Rattle.model.specs.Values.{part_code, refusal_number, refusal_of}
 use Rattle.model.specs.Plant.{largest, parts, InRing}
 use Rattle.model.specs.Reports.{stands_for, file_count, file_codes, file_words, part_named, word_named}
 use Rattle.model.specs.Refusals.{first_met, report_conditions, report_of, report_answer}
 use Rattle.model.specs.Laws.Tests.{dec_eq}
+use Rattle.model.specs.Laws.Refusals.{number_of_refusal}
 use Rattle.model.specs.Laws.Lists.{first_only, first_at}
 use Rattle.model.specs.Laws.Parts.{parts_in, parts_at, code_only}
 
@@ -48,7 +49,7 @@ code_named n c p e =
 
 -- a report that no condition meets is read, or there is a refusal
 abbrev pub ReadOrRefused : ℕ → Result (std.Option Report) Refusal → Type 0
-ReadOrRefused n a = ((r : Report) × (a ≡ Ok (std.Some r)) × (first_met (report_conditions n r) ≡ 0)) ⊎ ((r : Refusal) × (a ≡ Err r))
+ReadOrRefused n a = ((r : Report) × (a ≡ Ok (std.Some r)) × (first_met (report_conditions n r) ≡ 0)) ⊎ ((r : Refusal) × (a ≡ Err r) × (refusal_number r ≢ 0))
 
 -- a code and a word make one of the two
 pub read_or_refused : (n c v : ℕ) → ReadOrRefused n (report_answer n c v)
@@ -56,8 +57,8 @@ unfolding report_answer report_of
 read_or_refused n c v = go (part_named n c) (word_named v)
   where
     go : (o : Option Part) (u : Option Word) → ReadOrRefused n (report_of n o u)
-    go none u = inr (PartOutside, refl)
-    go (some p) none = inr (WordOutside, refl)
+    go none u = inr (PartOutside, refl, λ e. omega arith)
+    go (some p) none = inr (WordOutside, refl, λ e. omega arith)
     go (some p) (some w) = last (dec_eq k 0)
       where
         r : Report
@@ -68,4 +69,4 @@ read_or_refused n c v = go (part_named n c) (word_named v)
 
         last : (k ≡ 0) ⊎ (k ≢ 0) → ReadOrRefused n (cond (eqb k 0) (Ok (std.Some r)) (Err (refusal_of k)))
         last (inl e) = inl (r, rw (eq-eqb k 0 e), e)
-        last (inr e) = inr (refusal_of k, rw (ne_eqb k 0 e))
+        last (inr e) = inr (refusal_of k, rw (ne_eqb k 0 e), λ z. e (sym (number_of_refusal k) ∙ z))

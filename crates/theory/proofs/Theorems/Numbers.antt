@@ -1,8 +1,7 @@
 -- Document 02, Note 3: no call finds 7, no text prints it, and document 01's example of it is served.
 use Rattle.std.specs.Prelude.{◌≡◌, refl, Bool, true, false, not, ◌&&◌, cond, ◌≢◌, ◌⊎◌, eqb, ltb, pos, length, get_or, drop, Ok, Err}
 use Rattle.std.specs.Prelude as std
-use Rattle.std.proofs.Common.{ap, inl, inr, arith, length-append, ltb-true, ltb-false, eq-eqb, eqb-true}
-use Rattle.std.proofs.lemmas.Bool.{eqb-false}
+use Rattle.std.proofs.Common.{ap, inl, inr, arith, length-append, ltb-true, ltb-false, eq-eqb}
 use mathlib.Core.List.{List, [], ◌∷◌, ◌++◌, map, flat_map, append_assoc, append-nil}
 use Rattle.std.proofs.Math.Option.{Option, none, some}
 use Prim.Native.Char.{code}
@@ -25,7 +24,6 @@ use Rattle.model.specs.declared.Rate.TheVariants.{Chance, Unrated}
 use Rattle.model.specs.declared.Rates.{Rates}
 use Rattle.model.specs.declared.Exposure.{Exposure}
 use Rattle.model.specs.declared.BookingAnswer.{BookingAnswer}
-use Rattle.model.specs.declared.Refusal.{Refusal}
 use Rattle.model.specs.Lists.{below, keep, first, any_of, all_of}
 use Rattle.model.specs.Values.{Outcome, refusal_number, refusal_of, same_part, part_code, outcome_number, outcome_of, part_values, word_values, report_values, file_values}
 use Rattle.model.specs.Plant.{parts, health_of_kind, next, up, arc, connected}
@@ -171,7 +169,6 @@ use Rattle.model.specs.CutText.{count_line, cut_text, latest_ring, printed_cut_s
 use Rattle.model.specs.ExposureText.{hex_digits, bits_text, exposure_text, answered_text, exposure_line, bus_exposure_line, exposure_lines, printed_exposures}
 use Rattle.model.specs.ScanText.{sheet_room, scan_text}
 use Rattle.model.specs.Laws.Refusals.{number_of_refusal}
-use Rattle.model.specs.Laws.Numbers.{report_number}
 use Rattle.model.specs.Laws.Tests.{contra, dec, by_cond}
 use Rattle.model.specs.Laws.Digits.{hex_length}
 use Rattle.theory.specs.Statements.Recipe.{by_kind}
@@ -209,7 +206,7 @@ module _ (k : ℕ) where
         let r : Report = record { part = p; word = w } in
         let j = first_met (report_conditions n r) in
         by_cond (λ a. (report_values a).0 ≢ k) (eqb j 0) (λ t. other 0 zero)
-        (λ t. rw (number_of_refusal j (report_number n r) (λ z. eqb-false j 0 t z)) (report_never n r))
+        (λ t. rw (number_of_refusal j) (report_never n r))
 
     pub reports_never : (n : ℕ) (cs vs : List ℕ) → reports_refusal n cs vs ≢ k
     unfolding reports_refusal report_refusal report_answer
@@ -294,28 +291,7 @@ cancel_never state v = more 7 (bad_record state) 9 _ refl (more 7 (not (is_live 
 
 -- a refusal's number is 7 only where a call's own is
 numbered_never : (j : ℕ) → j ≢ 7 → refusal_number (refusal_of j) ≢ 7
-unfolding refusal_of
-numbered_never j p =
-    one (eqb j 1) _ _ (λ t. other 7 1 refl)
-    (λ t. one (eqb j 2) _ _ (λ t. other 7 2 refl)
-    (λ t. one (eqb j 3) _ _ (λ t. other 7 3 refl)
-    (λ t. one (eqb j 4) _ _ (λ t. other 7 4 refl)
-    (λ t. one (eqb j 5) _ _ (λ t. other 7 5 refl)
-    (λ t. one (eqb j 6) _ _ (λ t. other 7 6 refl)
-    (λ t. one (eqb j 7) _ _ (λ t. absurd (p (eqb-true j 7 t)))
-    (λ t. one (eqb j 8) _ _ (λ t. other 7 8 refl)
-    (λ t. one (eqb j 9) _ _ (λ t. other 7 9 refl)
-    (λ t. one (eqb j 10) _ _ (λ t. other 7 10 refl)
-    (λ t. one (eqb j 11) _ _ (λ t. other 7 11 refl)
-    (λ t. one (eqb j 12) _ _ (λ t. other 7 12 refl)
-    (λ t. one (eqb j 13) _ _ (λ t. other 7 13 refl)
-    (λ t. one (eqb j 14) _ _ (λ t. other 7 14 refl)
-    (λ t. one (eqb j 15) _ _ (λ t. other 7 15 refl)
-    (λ t. other 7 16 refl)))))))))))))))
-  where
-    one : (met : Bool) (r s : Refusal) → (met ≡ true → refusal_number r ≢ 7) → (met ≡ false → refusal_number s ≢ 7)
-        → refusal_number (cond met r s) ≢ 7
-    one met r s f g = by_cond (λ x. refusal_number x ≢ 7) met f g
+numbered_never j p = rw (number_of_refusal j) p
 
 outcome_never : (j : ℕ) → j ≢ 7 → outcome_number (outcome_of j) ≢ 7
 unfolding outcome_of

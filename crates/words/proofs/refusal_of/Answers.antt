@@ -1,69 +1,55 @@
--- `words::refusal_of` meets its contract: each number up to 15 is that of the refusal answered.
-use native.Mathlib.Omega.{arith}
-use Rattle.model.specs.declared.Refusal.TheVariants.{
-  FileShort,
-  SizeOutside,
-  ReportsAbove,
-  LengthOther,
-  PartOutside,
-  WordOutside,
-  GeneratorFit,
-  BufferShort,
-  BadRecord,
-  BusOutside,
-  CountAbove,
-  WattsOutside,
-  BookingNumber,
-  BookingsFull,
-  RateOutside,
-}
-use Rattle.words.specs.Words.{refusal_of_number, refusal_of_other}
+-- `words::refusal_of` meets its contract: each number is that of the refusal answered.
+use Rattle.std.specs.Prelude.{refl}
+use Rattle.words.specs.Words.{refusal_of_number}
 use Rattle.words.proofs.refusal_of.Goals as goal
 
 pub returns-in-1 : goal.returns-in-1
-returns-in-1 c = refusal_of_number _ FileShort c.in-1.is
+returns-in-1 c = refusal_of_number _ _ c.in-1.is
 
 pub returns-in-2 : goal.returns-in-2
-returns-in-2 c = refusal_of_number _ SizeOutside c.in-2.is
+returns-in-2 c = refusal_of_number _ _ c.in-2.is
 
 pub returns-in-3 : goal.returns-in-3
-returns-in-3 c = refusal_of_number _ ReportsAbove c.in-3.is
+returns-in-3 c = refusal_of_number _ _ c.in-3.is
 
 pub returns-in-4 : goal.returns-in-4
-returns-in-4 c = refusal_of_number _ LengthOther c.in-4.is
+returns-in-4 c = refusal_of_number _ _ c.in-4.is
 
 pub returns-in-5 : goal.returns-in-5
-returns-in-5 c = refusal_of_number _ PartOutside c.in-5.is
+returns-in-5 c = refusal_of_number _ _ c.in-5.is
 
 pub returns-in-6 : goal.returns-in-6
-returns-in-6 c = refusal_of_number _ WordOutside c.in-6.is
+returns-in-6 c = refusal_of_number _ _ c.in-6.is
 
 pub returns-in-7 : goal.returns-in-7
-returns-in-7 c = refusal_of_number _ GeneratorFit c.in-7.is
+returns-in-7 c = refusal_of_number _ _ c.in-7.is
 
 pub returns-in-8 : goal.returns-in-8
-returns-in-8 c = refusal_of_number _ BufferShort c.in-8.is
+returns-in-8 c = refusal_of_number _ _ c.in-8.is
 
 pub returns-in-9 : goal.returns-in-9
-returns-in-9 c = refusal_of_number _ BadRecord c.in-9.is
+returns-in-9 c = refusal_of_number _ _ c.in-9.is
 
 pub returns-in-10 : goal.returns-in-10
-returns-in-10 c = refusal_of_number _ BusOutside c.in-10.is
+returns-in-10 c = refusal_of_number _ _ c.in-10.is
 
 pub returns-in-11 : goal.returns-in-11
-returns-in-11 c = refusal_of_number _ CountAbove c.in-11.is
+returns-in-11 c = refusal_of_number _ _ c.in-11.is
 
 pub returns-in-12 : goal.returns-in-12
-returns-in-12 c = refusal_of_number _ WattsOutside c.in-12.is
+returns-in-12 c = refusal_of_number _ _ c.in-12.is
 
 pub returns-in-13 : goal.returns-in-13
-returns-in-13 c = refusal_of_number _ BookingNumber c.in-13.is
+returns-in-13 c = refusal_of_number _ _ c.in-13.is
 
 pub returns-in-14 : goal.returns-in-14
-returns-in-14 c = refusal_of_number _ BookingsFull c.in-14.is
+returns-in-14 c = refusal_of_number _ _ c.in-14.is
 
 pub returns-in-15 : goal.returns-in-15
-returns-in-15 c = refusal_of_number _ RateOutside c.in-15.is
+returns-in-15 c = refusal_of_number _ _ c.in-15.is
+
+pub returns-in-16 : goal.returns-in-16
+returns-in-16 c = refusal_of_number _ _ c.in-16.is
 
 pub returns-in_default : goal.returns-in_default
-returns-in_default c = refusal_of_other _ (λ p. omega (arith, p))
+returns-in_default c = refusal_of_number _ _ refl
